@@ -1,0 +1,48 @@
+//! Inputs that several comparisons share.
+
+use crate::description::Description;
+use crate::random::Random;
+use crate::theirs::{Protection, UEP_PROFILES};
+
+/// Every description that is accepted, one for each row and rate, at the start of the CIF.
+pub fn shapes() -> Vec<Description> {
+    let eep = (0..=1).flat_map(|option| {
+        let unit = if option == 0 { 8 } else { 32 };
+        (0..=3).flat_map(move |level| (1..=256).map(move |n| Description::eep(option, level, n * unit)))
+    });
+    let uep = UEP_PROFILES.iter().map(|p| Description::uep(p.level, p.bitrate));
+    eep.chain(uep).filter_map(fitted).filter(|d| d.sub_size <= 864).collect()
+}
+
+/// The description with the size that it needs, in units rounded up, where it has a row and the
+/// size is one.
+pub fn fitted(d: Description) -> Option<Description> {
+    let units = Protection::of(&d)?.needed_size().div_ceil(64);
+    Some(d.sized(units.try_into().ok()?))
+}
+
+/// The standard's mother code, clause 11.1.1: four bits for each bit of the message and for six
+/// zeros behind it.
+pub fn mother_code(message: &[u8]) -> Vec<u8> {
+    let a = |i: usize, back: usize| if i < back { 0 } else { *message.get(i - back).unwrap_or(&0) };
+    let sum = |i: usize, taps: &[usize]| taps.iter().fold(0, |sum, &back| sum ^ a(i, back));
+    (0..message.len() + 6)
+        .flat_map(|i| {
+            let x0 = sum(i, &[0, 2, 3, 5, 6]);
+            [x0, sum(i, &[0, 1, 2, 3, 6]), sum(i, &[0, 1, 4, 6]), x0]
+        })
+        .collect()
+}
+
+/// A sent word as it might be received: its signs, with `wrong` of each hundred turned round and
+/// `erased` of each hundred gone.
+pub fn received(word: &[u8], wrong: usize, erased: usize, random: &mut Random) -> Vec<i8> {
+    let value = |bit: &u8| {
+        if random.below(100) < erased {
+            return 0;
+        }
+        let weight = random.from_to(1, 127) as i8;
+        if (*bit == 1) == (random.below(100) >= wrong) { weight } else { -weight }
+    };
+    word.iter().map(value).collect()
+}

@@ -1,0 +1,37 @@
+-- The flag `allBits` and the fact `AreBits`.
+-- Assumes nothing.
+use mathlib.Core.Path.{_≡_, refl, sym, ap, _∙_, subst}
+use mathlib.Core.Bool.{Bool, true, false, cond}
+use mathlib.Core.List.{List, [], _∷_}
+use Prim.Native.Nat.{ℕ, _<_}
+use native.Mathlib.Omega.{arith}
+use borrow.Author.Tests.{ltb-true, lt-ltb}
+use lib.Dec.{ltb}
+use lib.ListN.{length, getD, take, drop, length-take, length-drop}
+use lib.Seq.{getD-take, getD-drop}
+use Rattle.laws.specs.Bits.{AreBits}
+use Rattle.laws.proofs.Bits.{bits-nil, bits-cons, bits-head, bits-tail}
+use Rattle.crc.specs.Tests.{allBits}
+
+pub all-are : (xs : List ℕ) → allBits xs ≡ true → AreBits xs
+unfolding allBits
+all-are [] e = bits-nil
+all-are (x ∷ xs) e = go (ltb x 2) refl e (all-are xs)
+  where
+    go : (t : Bool) → ltb x 2 ≡ t → cond t (allBits xs) false ≡ true → (allBits xs ≡ true → AreBits xs) → AreBits (x ∷ xs)
+    go true l r rest = bits-cons (ltb-true x 2 l) (rest r)
+    go false l r rest = absurd (clash r)
+      where
+        clash : false ≡ true → ⊥
+        clash q = let z : _≡_ {A = ℕ} 0 1 = cc in omega arith
+
+pub are-all : (xs : List ℕ) → AreBits xs → allBits xs ≡ true
+unfolding allBits
+are-all [] h = refl
+are-all (x ∷ xs) h = ap (λ (t : Bool). cond t (allBits xs) false) (lt-ltb x 2 (bits-head h)) ∙ are-all xs (bits-tail h)
+
+pub bits-take : (n : ℕ) {xs : List ℕ} → AreBits xs → AreBits (take n xs)
+bits-take n {xs} h = record { each = λ i l. rw (getD-take n xs i 0 (omega (arith, length-take n xs))) (h .each i (omega (arith, length-take n xs))) }
+
+pub bits-drop : (n : ℕ) {xs : List ℕ} → AreBits xs → AreBits (drop n xs)
+bits-drop n {xs} h = record { each = λ i l. rw (getD-drop n xs i 0) (h .each _ (omega (arith, length-drop n xs))) }
