@@ -19,24 +19,25 @@ impl Tally {
     /// Ours against the Rust.
     pub fn rust<T: PartialEq + Debug>(&mut self, rust: T, ours: T, input: impl FnOnce() -> String) -> Outcome {
         self.compared += 1;
-        same("the Rust", rust, ours, input)
+        same(["the Rust", "ours"], rust, ours, input)
     }
 
     /// Ours against the model.
     pub fn model<T: PartialEq + Debug>(&mut self, model: T, ours: T, input: impl FnOnce() -> String) -> Outcome {
         self.modelled += 1;
-        same("the model", model, ours, input)
+        same(["the model", "ours"], model, ours, input)
     }
 }
 
-/// A side condition of an input that is counted elsewhere.
-pub fn same<T: PartialEq + Debug>(who: &str, theirs: T, ours: T, input: impl FnOnce() -> String) -> Outcome {
-    if theirs == ours {
+/// A side condition of an input that is counted elsewhere: what the two named say is the same.
+pub fn same<T: PartialEq + Debug>(who: [&str; 2], one: T, other: T, input: impl FnOnce() -> String) -> Outcome {
+    if one == other {
         return Ok(());
     }
-    let (theirs, ours) = (format!("{theirs:?}"), format!("{ours:?}"));
-    let first = theirs.bytes().zip(ours.bytes()).take_while(|(a, b)| a == b).count();
-    Err(format!("{}\n  {who}: {}\n  ours: {}", input(), around(&theirs, first), around(&ours, first)))
+    let (one, other) = (format!("{one:?}"), format!("{other:?}"));
+    let first = one.bytes().zip(other.bytes()).take_while(|(a, b)| a == b).count();
+    let input = input();
+    Err(format!("{input}\n  {}: {}\n  {}: {}", who[0], around(&one, first), who[1], around(&other, first)))
 }
 
 /// The beginning of a value, enough to see it by.

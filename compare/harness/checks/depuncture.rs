@@ -15,7 +15,7 @@ pub fn msc(run: &Run, tally: &mut Tally) -> Outcome {
         let protection = Protection::of(&d).unwrap();
         let (needed, full) = (protection.needed_size(), protection.depunctured_size());
         let d = d.at(random.below(865 - usize::from(d.sub_size)) as u16).flagged(&mut random);
-        same("document 01", 96 * usize::from(d.bitrate) + 24, full, || format!("the Rust's room for {d:?}"))?;
+        same(["document 01", "the Rust"], 96 * usize::from(d.bitrate) + 24, full, || format!("room for {d:?}"))?;
         for given in [0, random.below(needed), needed - 1, needed, needed + 1, needed + 8 + random.below(60)] {
             let room = full + *random.pick(&[0, 0, 1, 40]);
             accepted(&protection, &d, &random.soft(given), room, tally)?;
@@ -72,7 +72,7 @@ pub fn fic(run: &Run, tally: &mut Tally) -> Outcome {
             let soft = random.soft(given);
             let before = pattern(3_096 + *random.pick(&[0, 0, 1, 40]));
             let mut after = theirs::depuncture_fic(&soft);
-            same("document 01", 3_096, after.len(), || format!("the Rust's answer to {given} values"))?;
+            same(["document 01", "the Rust"], 3_096, after.len(), || format!("room for {given} values"))?;
             after.extend_from_slice(&before[after.len()..]);
             let input = || format!("{given} values, {} places lent: {}", before.len(), tally::short(&soft));
             tally.rust(Ok((0, after)), ours::depuncture_fic(&soft, &before), input)?;

@@ -1,5 +1,5 @@
 use super::Run;
-use crate::tally::{Outcome, Tally};
+use crate::tally::{Outcome, Tally, short};
 use crate::{ours, theirs};
 
 pub fn compare(run: &Run, tally: &mut Tally) -> Outcome {
@@ -45,5 +45,5 @@ pub fn compare(run: &Run, tally: &mut Tally) -> Outcome {
 fn one(bits: &[u8], tally: &mut Tally) -> Outcome {
     let mut rust = bits.to_vec();
     theirs::energy_dispersal(&mut rust);
-    tally.rust(Ok(rust), ours::energy_dispersal(bits), || format!("{} values {bits:02x?}", bits.len()))
+    tally.rust(Ok(rust), ours::energy_dispersal(bits), || format!("{} values {}", bits.len(), short(&bits)))
 }

@@ -69,7 +69,7 @@ fn flipped(fib: &[u8], places: &[usize]) -> Vec<u8> {
 
 /// An input whose answer is known beforehand: up to two wrong bits never pass this CRC.
 fn known(fib: &[u8], answer: bool, tally: &mut Tally) -> Outcome {
-    same("the standard", answer, theirs::fib_crc_valid(fib), || format!("a wrong test input {fib:02x?}"))?;
+    same(["the standard", "the Rust"], answer, theirs::fib_crc_valid(fib), || format!("{fib:02x?}"))?;
     one(fib, tally)
 }
 
@@ -79,6 +79,6 @@ fn one(fib: &[u8], tally: &mut Tally) -> Outcome {
 
 fn beside(fib: &[u8], behind: &[u8], tally: &mut Tally) -> Outcome {
     let rust = theirs::fib_crc_valid(fib);
-    same("the model", byte_test(fib), rust, || format!("the Rust itself on {fib:02x?}"))?;
+    same(["the model", "the Rust"], byte_test(fib), rust, || format!("{fib:02x?}"))?;
     tally.rust(Ok(rust), ours::fib_crc_valid(fib, behind), || format!("{} bytes {fib:02x?}", fib.len()))
 }

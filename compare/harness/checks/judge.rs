@@ -36,7 +36,7 @@ fn named(tally: &mut Tally) -> Outcome {
         (Description::eep(0, 1, 16).sized(16), 0),
     ];
     for (d, number) in cases {
-        same("document 01", number, ours::judge(&d), || format!("{d:?}"))?;
+        same(["document 01", "ours"], number, ours::judge(&d), || format!("{d:?}"))?;
         one(&d, tally)?;
     }
     Ok(())
@@ -129,7 +129,7 @@ fn likely(random: &mut Random) -> Description {
 fn one(d: &Description, tally: &mut Tally) -> Outcome {
     let number = protection::judge(d);
     let accepted = theirs::accepts(d);
-    same("the model", matches!(number, 0 | 6 | 7), accepted, || format!("the Rust itself on {d:?}"))?;
+    same(["the model", "the Rust"], matches!(number, 0 | 6 | 7), accepted, || format!("{d:?}"))?;
     if matches!(number, 6 | 7) {
         tally.listed += 1;
         return tally.model(number, ours::judge(d), || format!("{d:?}"));

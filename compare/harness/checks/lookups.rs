@@ -58,7 +58,7 @@ fn one(d: &Description, lookup: &Lookup, random: &mut Random, tally: &mut Tally)
     let before: Vec<u64> = (0..room as u64).map(|i| !i).collect();
 
     let number = protection::lookup(&d);
-    same("the model", number == 0, rust.is_some(), || format!("the Rust itself on {d:?}"))?;
+    same(["the model", "the Rust"], number == 0, rust.is_some(), || format!("{d:?}"))?;
     let mut after = before.clone();
     let short = number == 0 && room < needed;
     if let Some(values) = rust.filter(|_| !short) {

@@ -7,8 +7,6 @@ use Prim.Native.Nat.{ℕ, _<_}
 use native.Mathlib.Omega.{arith}
 use borrow.Author.Tests.{ltb-true, lt-ltb}
 use lib.Dec.{ltb}
-use lib.ListN.{length, getD, take, drop, length-take, length-drop}
-use lib.Seq.{getD-take, getD-drop}
 use Rattle.laws.specs.Bits.{AreBits}
 use Rattle.laws.proofs.Bits.{bits-nil, bits-cons, bits-head, bits-tail}
 use Rattle.crc.specs.Tests.{allBits}
@@ -29,9 +27,3 @@ pub are-all : (xs : List ℕ) → AreBits xs → allBits xs ≡ true
 unfolding allBits
 are-all [] h = refl
 are-all (x ∷ xs) h = ap (λ (t : Bool). cond t (allBits xs) false) (lt-ltb x 2 (bits-head h)) ∙ are-all xs (bits-tail h)
-
-pub bits-take : (n : ℕ) {xs : List ℕ} → AreBits xs → AreBits (take n xs)
-bits-take n {xs} h = record { each = λ i l. rw (getD-take n xs i 0 (omega (arith, length-take n xs))) (h .each i (omega (arith, length-take n xs))) }
-
-pub bits-drop : (n : ℕ) {xs : List ℕ} → AreBits xs → AreBits (drop n xs)
-bits-drop n {xs} h = record { each = λ i l. rw (getD-drop n xs i 0) (h .each _ (omega (arith, length-drop n xs))) }

@@ -102,3 +102,33 @@ two-bytes a b ha hb =
   where
     whole : (n : ℕ) → n < 256 → n % 256 ≡ n
     whole n h = omega arith
+
+-- each byte by its place
+pub bytes-length : (xs : List ℕ) → length (bytesOfBits xs) ≡ length xs / 8
+unfolding bytesOfBits
+bytes-length [] = refl
+bytes-length (a ∷ []) = refl
+bytes-length (a ∷ b ∷ []) = refl
+bytes-length (a ∷ b ∷ c ∷ []) = refl
+bytes-length (a ∷ b ∷ c ∷ d ∷ []) = refl
+bytes-length (a ∷ b ∷ c ∷ d ∷ f ∷ []) = refl
+bytes-length (a ∷ b ∷ c ∷ d ∷ f ∷ g ∷ []) = refl
+bytes-length (a ∷ b ∷ c ∷ d ∷ f ∷ g ∷ i ∷ []) = refl
+bytes-length (a ∷ b ∷ c ∷ d ∷ f ∷ g ∷ i ∷ j ∷ xs) = omega (arith, bytes-length xs)
+
+pub byte-at : (xs : List ℕ) (n : ℕ) → n < length xs / 8 → getD (bytesOfBits xs) n 0 ≡ numOf (take 8 (drop (8 * n) xs))
+unfolding bytesOfBits
+byte-at [] n h = absurd (omega arith)
+byte-at (a ∷ []) n h = absurd (omega arith)
+byte-at (a ∷ b ∷ []) n h = absurd (omega arith)
+byte-at (a ∷ b ∷ c ∷ []) n h = absurd (omega arith)
+byte-at (a ∷ b ∷ c ∷ d ∷ []) n h = absurd (omega arith)
+byte-at (a ∷ b ∷ c ∷ d ∷ f ∷ []) n h = absurd (omega arith)
+byte-at (a ∷ b ∷ c ∷ d ∷ f ∷ g ∷ []) n h = absurd (omega arith)
+byte-at (a ∷ b ∷ c ∷ d ∷ f ∷ g ∷ i ∷ []) n h = absurd (omega arith)
+byte-at (a ∷ b ∷ c ∷ d ∷ f ∷ g ∷ i ∷ j ∷ xs) zero h = refl
+byte-at (a ∷ b ∷ c ∷ d ∷ f ∷ g ∷ i ∷ j ∷ xs) (suc n) h =
+    byte-at xs n (omega arith) ∙ ap (λ (m : ℕ). numOf (take 8 (drop m (a ∷ b ∷ c ∷ d ∷ f ∷ g ∷ i ∷ j ∷ xs)))) (eight n)
+  where
+    eight : (m : ℕ) → suc (suc (suc (suc (suc (suc (suc (suc (8 * m)))))))) ≡ 8 * suc m
+    eight m = omega arith

@@ -6,7 +6,8 @@ use Prim.Native.Nat.{ℕ, zero, suc, _+_, _*_, _/_, _%_, _^_, _<_, _≤_}
 use native.Mathlib.Omega.{arith}
 use native.Mathlib.Numerals.{add-one}
 use native.Mathlib.Nat.{pow-suc, mul-assoc, mul-comm, add-mul, not-suc-le-zero, le-of-suc-le-suc}
-use lib.ListN.{length, getD, length-append}
+use lib.ListN.{length, getD, take, drop, length-append, length-take, length-drop}
+use lib.Seq.{getD-take, getD-drop}
 use lib.Pow.{high, pow-add}
 use Rattle.laws.specs.Bits.{numOf, bitsOf, AreBits, mapFrom}
 use Rattle.laws.proofs.Words.{above, even-part}
@@ -112,3 +113,9 @@ num-append (x ∷ xs) ys =
     let e : x * 2 ^ length (xs ++ ys) ≡ x * 2 ^ length xs * 2 ^ length ys =
     ap (λ (n : ℕ). x * 2 ^ n) (length-append xs ys) ∙ ap (λ (p : ℕ). x * p) (pow-add 2 (length xs) (length ys)) ∙ sym (mul-assoc x (2 ^ length xs) (2 ^ length ys)) in
     omega (arith, e, num-append xs ys, add-mul (x * 2 ^ length xs) (numOf xs) (2 ^ length ys))
+
+pub bits-take : (n : ℕ) {xs : List ℕ} → AreBits xs → AreBits (take n xs)
+bits-take n {xs} h = record { each = λ i l. rw (getD-take n xs i 0 (omega (arith, length-take n xs))) (h .each i (omega (arith, length-take n xs))) }
+
+pub bits-drop : (n : ℕ) {xs : List ℕ} → AreBits xs → AreBits (drop n xs)
+bits-drop n {xs} h = record { each = λ i l. rw (getD-drop n xs i 0) (h .each _ (omega (arith, length-drop n xs))) }

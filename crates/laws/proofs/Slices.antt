@@ -3,12 +3,12 @@
 use mathlib.Core.Path.{_≡_, refl, sym, ap, _∙_, subst}
 use mathlib.Core.List.{List, [], _∷_, _++_}
 use native.Mathlib.Nat.{not-suc-le-zero}
-use Prim.Native.Nat.{ℕ, _+_, _<_, _≤_}
+use Prim.Native.Nat.{ℕ, _+_, _-_, _<_, _≤_}
 use native.Mathlib.Omega.{arith}
 use native.Mathlib.Decide.{ℕ-discrete}
 use native.Mathlib.Numerals.{add-one}
-use lib.ListN.{length, set, getD, take, length-set}
-use lib.Seq.{getD-set-same, getD-set-other, take-suc, take-all}
+use lib.ListN.{length, set, getD, take, drop, length-set, length-append, length-drop, List·getD-append}
+use lib.Seq.{getD-set-same, getD-set-other, getD-take, getD-drop, getD-append-add, length-take-le, take-suc, take-all}
 
 module _ {ℓ} {A : Type ℓ} (d : A) where
   -- one value more of a list that is filled from the front by the values of g
@@ -51,3 +51,27 @@ module _ {ℓ} {A : Type ℓ} (d : A) where
 
   pub folded-all : {G : List A → ℕ} {xs : List A} {i acc : ℕ} → length xs ≤ i → Folded G xs i acc → acc ≡ G xs
   folded-all {G} {xs} {i} h v = v .is ∙ ap G (take-all i xs h)
+
+-- what a callee that was lent `&mut xs[a..e]` leaves of the whole, where it leaves ys of the part: take a xs ++ (ys ++ drop e xs)
+module _ {ℓ} {A : Type ℓ} (d : A) (a e : ℕ) (xs ys : List A) (h : a ≤ e) (within : e ≤ length xs) (long : length ys ≡ e - a) where
+  front : length (take a xs) ≡ a
+  front = length-take-le a xs (omega arith)
+
+  pub part-length : length (take a xs ++ (ys ++ drop e xs)) ≡ length xs
+  part-length = length-append (take a xs) (ys ++ drop e xs) ∙ omega (arith, front, length-append ys (drop e xs), length-drop e xs)
+
+  pub part-before : (k : ℕ) → k < a → getD (take a xs ++ (ys ++ drop e xs)) k d ≡ getD xs k d
+  part-before k l = List·getD-append (take a xs) (ys ++ drop e xs) d k (omega (arith, front)) ∙ getD-take a xs k d l
+
+  pub part-inside : (k : ℕ) → k < e - a → getD (take a xs ++ (ys ++ drop e xs)) (a + k) d ≡ getD ys k d
+  part-inside k l =
+      subst (λ (n : ℕ). getD (take a xs ++ (ys ++ drop e xs)) (n + k) d ≡ getD ys k d) front
+      (getD-append-add (take a xs) (ys ++ drop e xs) k d ∙ List·getD-append ys (drop e xs) d k (omega arith))
+
+  pub part-after : (k : ℕ) → e ≤ k → getD (take a xs ++ (ys ++ drop e xs)) k d ≡ getD xs k d
+  part-after k l =
+      let j : ℕ = k - e in
+      let at-part : k ≡ length (take a xs) + (length ys + j) = omega (arith, front) in
+      let at-whole : e + j ≡ k = omega arith in
+      ap (λ (n : ℕ). getD (take a xs ++ (ys ++ drop e xs)) n d) at-part ∙ getD-append-add (take a xs) (ys ++ drop e xs) (length ys + j) d
+      ∙ getD-append-add ys (drop e xs) j d ∙ getD-drop e xs j d ∙ ap (λ (n : ℕ). getD xs n d) at-whole

@@ -15,8 +15,13 @@ pub fn cases(end: &End, tally: &mut Tally) -> Outcome {
         let trellis = Trellis::of(soft);
         let (_, _, from) = trellis.to((end.state)(&trellis));
         let rust = (end.rust)(soft);
-        let input = || format!("the Rust and the model on {soft:?}");
-        same("document 01", (bits.to_vec(), metric, start.unwrap_or(from)), (rust.0, rust.1, from), input)?;
+        let input = || format!("{soft:?}");
+        same(
+            ["document 01", "the Rust and the model"],
+            (bits.to_vec(), metric, start.unwrap_or(from)),
+            (rust.0, rust.1, from),
+            input,
+        )?;
         one(end, soft, NONE, tally)
     };
     case(&[], &[], 0, None, tally)?;
@@ -43,7 +48,7 @@ pub fn subtractions(end: &End, tally: &mut Tally) -> Outcome {
     ];
     for (soft, metric) in named {
         let rust = (end.rust)(&soft).1;
-        same("document 01", metric, rust, || format!("the Rust itself on {} values of -128", soft.len()))?;
+        same(["document 01", "the Rust"], metric, rust, || format!("{} values of -128", soft.len()))?;
         one(end, &soft, NONE, tally)?;
     }
     for last in -128..=127 {

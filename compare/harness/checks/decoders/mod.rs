@@ -71,7 +71,7 @@ fn one(end: &End, soft: &[i8], spare: Spare, tally: &mut Tally) -> Outcome {
     let (bits, metric) = (end.rust)(soft);
     let (model_bits, model_metric, _) = trellis.to((end.state)(&trellis));
     let model = (model_bits, model_metric as i32);
-    same("the model", &model, &(bits.clone(), metric), || format!("the Rust itself on {}", input()))?;
+    same(["the model", "the Rust"], &model, &(bits.clone(), metric), input)?;
 
     let before = before(steps + spare.0, steps + spare.1, 1 + spare.2);
     let mut after = before.clone();
@@ -84,11 +84,11 @@ fn one(end: &End, soft: &[i8], spare: Spare, tally: &mut Tally) -> Outcome {
 
 /// The same for a short input, with every path tried beside it.
 fn one_by_paths(end: &End, soft: &[i8], tally: &mut Tally) -> Outcome {
-    let input = || format!("the Rust and the model on {} values {soft:?}", soft.len());
+    let input = || format!("{} values {soft:?}", soft.len());
     let best = Best::of(soft);
     let trellis = Trellis::of(soft);
     let (bits, metric, _) = trellis.to((end.state)(&trellis));
     let (by_paths, score) = (end.by_paths)(&best);
-    same("every path", (best.words(), by_paths, score), (trellis.words, bits, metric), input)?;
+    same(["every path", "the model"], (best.words(), by_paths, score), (trellis.words, bits, metric), input)?;
     one(end, soft, Spare(0, 0, 0), tally)
 }

@@ -14,7 +14,8 @@ use Rattle.laws.specs.Bits.{AreBits, numOf}
 use Rattle.en300401.specs.Crc.{crcFrom, crcWord, fibValid}
 use Rattle.crc.specs.Tests.{allBits, bitTest}
 use Rattle.crc.proofs.Agree.{bit-is, no-bits, not-256}
-use Rattle.crc.proofs.Bits.{all-are, bits-take, bits-drop}
+use Rattle.laws.proofs.Bits.{bits-take, bits-drop}
+use Rattle.crc.proofs.Bits.{all-are}
 use Rattle.crc.proofs.check_crc_bits.Statement.{statement}
 use Rattle.crc.proofs.check_crc_bits.Tie as tie
 

@@ -8,8 +8,7 @@ use lib.ListN.{length, getD, take, length-take}
 use lib.Pow.{pow-mono}
 use Rattle.laws.specs.Bits.{numOf, AreBits}
 use Rattle.laws.proofs.Slices.{Folded, folded-next, folded-all}
-use Rattle.laws.proofs.Bits.{num-snoc, num-lt}
-use Rattle.crc.proofs.Bits.{bits-take}
+use Rattle.laws.proofs.Bits.{bits-take, num-snoc, num-lt}
 use Rattle.crc.proofs.word_of.Statement.{statement}
 use Rattle.crc.proofs.word_of.Tie as tie
 
