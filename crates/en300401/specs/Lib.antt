@@ -1,5 +1,6 @@
--- ETSI EN 300 401, as definitions over plain numbers and lists.
+-- ETSI EN 300 401, as definitions over plain numbers and lists, and document 01's trellis.
 pub mod Bytes
+pub mod Clean
 pub mod Crc
 pub mod Dispersal
 pub mod Eep

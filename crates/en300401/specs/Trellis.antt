@@ -27,9 +27,13 @@ register s b = 2 * s + b
 unfoldable pub nextState : ℕ → ℕ → ℕ
 nextState s b = register s b % 64
 
--- output g: the parity of register and mask
+-- the number of ones of register and mask, modulo two
+unfoldable pub parity : ℕ → ℕ → ℕ
+parity r mask = ones (bitAnd r mask) % 2
+
+-- output g: the parity of the register and mask g
 unfoldable pub outBit : ℕ → ℕ → ℕ → ℕ
-outBit s b g = ones (bitAnd (register s b) (getD masks g 0)) % 2
+outBit s b g = parity (register s b) (getD masks g 0)
 
 -- a soft value times +1 where the output is 1 and -1 where it is 0
 unfoldable pub signBy : ℕ → ℤ → ℤ

@@ -1,6 +1,10 @@
 -- Clause 11.3.1, unequal error protection: the table of the 64 profiles, in the order of clause 6.2.1's short-form table.
+use mathlib.Core.Bool.{Bool, _&&_}
 use mathlib.Core.List.{List, [], _∷_}
+use mathlib.Core.Option.{Option, none, some}
 use Prim.Native.Nat.{ℕ}
+use lib.Dec.{eqb}
+use Rattle.laws.specs.Lists.{find}
 use Rattle.en300401.specs.Puncturing.{Region}
 
 -- a row: kbit/s, level, size in units, four regions, padding bits; an empty region has 0 blocks and no vector, written 0
@@ -84,3 +88,20 @@ uepTable =
     ∷ row 384 3 280 (r 11 16 ∷ r 24 9 ∷ r 250 7 ∷ r 3 10 ∷ []) 4
     ∷ row 384 1 416 (r 12 24 ∷ r 28 20 ∷ r 245 14 ∷ r 3 23 ∷ []) 8
     ∷ []
+
+-- a row is for this bit rate and level
+unfoldable pub isFor : ℕ → ℕ → Row → Bool
+isFor k l p = eqb (p .rate) k && eqb (p .level) l
+
+-- the row for a bit rate and level, if the table has one
+unfoldable pub uepRow : ℕ → ℕ → Option Row
+uepRow k l = find (isFor k l) uepTable
+
+-- the regions of a row, and none of no row
+abbrev pub regionsOf : Option Row → List Region
+regionsOf none = []
+regionsOf (some p) = p .regions
+
+-- the four regions for a bit rate and level
+unfoldable pub uepProfile : ℕ → ℕ → List Region
+uepProfile k l = regionsOf (uepRow k l)

@@ -1,7 +1,7 @@
 -- Numbers and their bits, the high bit first: there and back, and one bit more at the end.
 -- Assumes nothing.
 use mathlib.Core.Path.{_≡_, refl, sym, ap, ap₂, _∙_, subst}
-use mathlib.Core.List.{List, [], _∷_, _++_}
+use mathlib.Core.List.{List, [], _∷_, _++_, reverse, reverseAux}
 use Prim.Native.Nat.{ℕ, zero, suc, _+_, _*_, _/_, _%_, _^_, _<_, _≤_}
 use native.Mathlib.Omega.{arith}
 use native.Mathlib.Numerals.{add-one}
@@ -119,3 +119,14 @@ bits-take n {xs} h = record { each = λ i l. rw (getD-take n xs i 0 (omega (arit
 
 pub bits-drop : (n : ℕ) {xs : List ℕ} → AreBits xs → AreBits (drop n xs)
 bits-drop n {xs} h = record { each = λ i l. rw (getD-drop n xs i 0) (h .each _ (omega (arith, length-drop n xs))) }
+
+pub bits-append : {xs ys : List ℕ} → AreBits xs → AreBits ys → AreBits (xs ++ ys)
+bits-append {xs = []} f g = g
+bits-append {xs = x ∷ xs} f g = bits-cons (bits-head f) (bits-append (bits-tail f) g)
+
+pub bits-reverse : {xs : List ℕ} → AreBits xs → AreBits (reverse xs)
+bits-reverse {xs} f = onto xs [] f bits-nil
+  where
+    onto : (l r : List ℕ) → AreBits l → AreBits r → AreBits (reverseAux l r)
+    onto [] r a b = b
+    onto (x ∷ l) r a b = onto l (x ∷ r) (bits-tail a) (bits-cons (bits-head a) b)

@@ -1,6 +1,7 @@
 -- Laws that belong to no one function.
 pub mod Bits
 pub mod Integers
+pub mod Lists
 pub mod Machine
 pub mod Slices
 pub mod Tables

@@ -1,0 +1,54 @@
+-- Laws of refusals and outcomes.
+-- Assumes nothing.
+use mathlib.Core.Path.{_≡_, refl, ap, _∙_}
+use mathlib.Core.List.{List, [], _∷_, _++_}
+use Prim.Native.Nat.{ℕ, zero, suc}
+use native.Mathlib.Omega.{arith}
+use Rattle.refusal.specs.Outcome.{Outcome, gives, refuses, outcome, orElse, firstOf}
+
+pub orElse-assoc : (k m n : ℕ) → orElse (orElse k m) n ≡ orElse k (orElse m n)
+orElse-assoc zero m n = refl
+orElse-assoc (suc k) m n = refl
+
+pub orElse-zero : (n : ℕ) → orElse n 0 ≡ n
+orElse-zero zero = refl
+orElse-zero (suc n) = refl
+
+-- the first of two lists of refusals
+pub first-append : (xs ys : List ℕ) → firstOf (xs ++ ys) ≡ orElse (firstOf xs) (firstOf ys)
+first-append [] ys = refl
+first-append (x ∷ xs) ys = ap (orElse x) (first-append xs ys) ∙ orElse-sym x
+  where
+    orElse-sym : (n : ℕ) → orElse n (orElse (firstOf xs) (firstOf ys)) ≡ orElse (orElse n (firstOf xs)) (firstOf ys)
+    orElse-sym zero = refl
+    orElse-sym (suc n) = refl
+
+module _ {ℓ} {A : Type ℓ} where
+  -- what an outcome says of its number
+  pub refused-number : (n : ℕ) (a : A) (k : ℕ) → refuses k ≡ outcome n a → n ≡ k
+  refused-number zero a k e = let z : _≡_ {A = ℕ} 0 1 = cc in absurd (omega arith)
+  refused-number (suc n) a k e = cc
+
+  pub given-number : (n : ℕ) (a b : A) → gives b ≡ outcome n a → n ≡ 0
+  given-number zero a b e = refl
+  given-number (suc n) a b e = let z : _≡_ {A = ℕ} 0 1 = cc in absurd (omega arith)
+
+  pub given-value : (n : ℕ) (a b : A) → gives b ≡ outcome n a → b ≡ a
+  given-value zero a b e = cc
+  given-value (suc n) a b e = let z : _≡_ {A = ℕ} 0 1 = cc in absurd (omega arith)
+
+  -- a refusal of one outcome is a refusal of every outcome with its number
+  pub still-refused {κ} : {B : Type κ} (n : ℕ) (a : A) (b : B) (k : ℕ) → refuses k ≡ outcome n a → refuses k ≡ outcome n b
+  still-refused n a b k e = still n k e
+    where
+      still : (n k : ℕ) → refuses k ≡ outcome n a → refuses k ≡ outcome n b
+      still zero k e = let z : _≡_ {A = ℕ} 0 1 = cc in absurd (omega arith)
+      still (suc n) k e = let z : k ≡ suc n = cc in ap refuses z
+
+  -- and of what is checked first and more after it
+  pub first-refused {κ} : {B : Type κ} (n m : ℕ) (a : A) (b : B) (k : ℕ) → refuses k ≡ outcome n a → refuses k ≡ outcome (orElse n m) b
+  first-refused n m a b k e = still n k e
+    where
+      still : (n k : ℕ) → refuses k ≡ outcome n a → refuses k ≡ outcome (orElse n m) b
+      still zero k e = let z : _≡_ {A = ℕ} 0 1 = cc in absurd (omega arith)
+      still (suc n) k e = let z : k ≡ suc n = cc in ap refuses z

@@ -1,0 +1,5 @@
+pub mod Paths
+pub mod Refusals
+pub mod Result
+pub mod Steps
+pub mod Unique

@@ -1,0 +1,34 @@
+use native.Mathlib.Omega.{arith}
+use borrow.Author.Needs.{needs}
+use Rattle.en300401.proofs.Trellis.{out-lt}
+use Rattle.viterbi.specs.Steps.{patternOf}
+use Rattle.viterbi.proofs.pattern.Statement.{statement}
+use Rattle.viterbi.proofs.pattern.Tie as tie
+
+entry-requires : tie.Need-entry-requires
+entry-requires c κs = search needs
+
+entry-requires-2 : tie.Need-entry-requires-2
+entry-requires-2 c κs = search needs
+
+entry-requires-3 : tie.Need-entry-requires-3
+entry-requires-3 c κs = search needs
+
+entry-requires-4 : tie.Need-entry-requires-4
+entry-requires-4 c κs = search needs
+
+joined-requires : tie.Need-joined-requires
+joined-requires c κs =
+    let a = c .before .before .before .before .args in (
+      omega (arith, c .before .before .before .entry .ensures, out-lt (a .s) (a .b) 0),
+      omega (arith, c .before .before .entry2 .ensures, out-lt (a .s) (a .b) 1),
+      omega (arith, c .before .entry3 .ensures, out-lt (a .s) (a .b) 2),
+      omega (arith, c .entry4 .ensures, out-lt (a .s) (a .b) 3),
+    )
+
+returns : tie.Need-returns
+unfolding patternOf
+returns c = omega (arith, c .joined .ensures, c .before .before .before .before .entry .ensures, c .before .before .before .entry2 .ensures, c .before .before .entry3 .ensures, c .before .entry4 .ensures)
+
+pub pattern-spec : {M : Type 1} → statement M
+pattern-spec = tie.close (tie.spec entry-requires entry-requires-2 entry-requires-3 entry-requires-4 joined-requires returns)
