@@ -11,6 +11,7 @@ pub mod Trellis
 pub mod TrellisOrder
 pub mod TrellisPass
 pub mod TrellisProgram
+pub mod TrellisShort
 pub mod TrellisSpread
 pub mod TrellisSubtracted
 pub mod TrellisTrace

@@ -15,6 +15,7 @@ use Rattle.viterbi.specs.declared.Decoding.the-variants.{Done, Refused}
 abbrev pub steps : List ℤ → ℕ
 steps xs = length xs / 4
 
+-- the first where the flag holds, else the second
 abbrev pub pickO : Bool → Option ℕ → Option ℕ → Option ℕ
 pickO true a b = a
 pickO false a b = b
@@ -28,6 +29,7 @@ pub data Answer : Type 0 where
   done : ℤ → Answer
   refused : ℕ → Answer
 
+-- what each case of the enum says
 abbrev pub answerOf : Decoding → Answer
 answerOf (Done s) = done (s .metric)
 answerOf (Refused r) = refused (r .number)

@@ -16,15 +16,18 @@ ghost use Rattle.branch_outputs.specs.Outputs.{branchOutputs};
 ghost use Rattle.viterbi.specs.Steps.{branchOf, patternOf, correlationOf, Patterns, Correlations, Within, Chosen};
 ghost use Rattle.viterbi.specs.Decoders.{endsOf, answerOf, Accepted, Decoded};
 
+// What a decode gives beside its bits: the best path's score less all that was subtracted.
 pub struct Score {
     pub metric: i32,
 }
 
+// Done, or turned away by document 01's number: 11, then 8.
 pub enum Decoding {
     Done(Score),
     Refused(Refusal),
 }
 
+// Each signed operation once, so that its range is shown in one place.
 fn plus(a: i32, b: i32) -> i32
     requires { ⌜ natAbs a + natAbs b < 2 ^ 31 ⌝ }
     ensures { λ r. ⌜ r ≡ a +ℤ b ⌝ }
@@ -153,6 +156,7 @@ fn choice(on: bool) -> u64
     if on { 1 } else { 0 }
 }
 
+// A word with one bit more, above its t bits.
 fn with_bit(word: u64, t: usize, bit: u64) -> u64
     requires { ⌜ (t < 64) × (word < 2 ^ t) × (bit < 2) ⌝ }
     ensures { λ r. ⌜ (r ≡ word + bit * 2 ^ t) × (r < 2 ^ (t + 1)) ⌝ }
@@ -206,6 +210,7 @@ fn step(
     next
 }
 
+// The best of the 64 scores.
 fn greatest(scores: &[i32; 64]) -> i32
     requires { ⌜ Within 64 1000000 (now scores) ⌝ }
     ensures { λ r. ⌜ Greatest (at (now (scores .entry))) 64 r ⌝ }
@@ -247,6 +252,7 @@ fn renormalised(scores: [i32; 64]) -> [i32; 64]
     }
 }
 
+// Before the first step: 0 in state 0, else -63.
 fn start() -> [i32; 64]
     ensures { λ r. ⌜ ((t : ℕ) → t < 64 → at r t ≡ startScore t) ⌝ }
 {
@@ -323,6 +329,7 @@ fn best_end(scores: &[i32; 64]) -> usize
     best
 }
 
+// The end that is traced back: the best, or state 0.
 fn chosen_end(scores: &[i32; 64], free: bool) -> usize
     requires { ⌜ Within 64 1000000 (now scores) ⌝ }
     ensures { λ r. ⌜ (r < 64) × Chosen free (at (now (scores .entry))) r ⌝ }
@@ -343,6 +350,7 @@ fn best_path(soft: &[i8], words: &mut [u64], bits: &mut [u8], free: bool) -> i32
     scores[end]
 }
 
+// The room of two lent slices.
 fn least(a: usize, b: usize) -> usize
     ensures { λ r. ⌜ r ≡ min a b ⌝ }
 {
@@ -365,14 +373,14 @@ fn decode(soft: &[i8], words: &mut [u64], bits: &mut [u8], free: bool) -> Decodi
     Decoding::Done(Score { metric })
 }
 
-// The best path that ends in state 0.
+// Decodes to the best path that ends in state 0. Four soft values make a step; each step takes one place of `words` and one of `bits`.
 pub fn viterbi_decode_state0(soft: &[i8], words: &mut [u64], bits: &mut [u8]) -> Decoding
     ensures { λ r. ⌜ Decoded zeroEnd (now (soft .entry)) (now (words .entry)) (now (bits .entry)) (answerOf r) (now (words .exit)) (now (bits .exit)) ⌝ }
 {
     decode(soft, &mut *words, &mut *bits, false)
 }
 
-// The best path of all.
+// Decodes to the best path, whatever state it ends in.
 pub fn viterbi_decode_with_metric(soft: &[i8], words: &mut [u64], bits: &mut [u8]) -> Decoding
     ensures { λ r. ⌜ Decoded freeEnd (now (soft .entry)) (now (words .entry)) (now (bits .entry)) (answerOf r) (now (words .exit)) (now (bits .exit)) ⌝ }
 {
