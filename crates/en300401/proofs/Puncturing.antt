@@ -5,7 +5,7 @@ use mathlib.Core.Bool.{Bool, true, false}
 use mathlib.Core.List.{List, [], _∷_, _++_}
 use Prim.Native.Nat.{ℕ, zero, suc, _+_, _*_, _/_, _%_, _<_, _≤_}
 use native.Mathlib.Omega.{arith}
-use native.Mathlib.Nat.{mul-assoc, mul-comm, not-suc-le-zero, le-of-suc-le-suc}
+use native.Mathlib.Nat.{mul-assoc, mul-comm, zero-mul, mul-le-mul-left, not-suc-le-zero, le-of-suc-le-suc}
 use lib.Dec.{T, eqb, eqb→eq, ltb, leb, ltb→lt, leb→le, lit<, lit≤}
 use lib.ListN.{length, getD, drop, length-append}
 use lib.Seq.{drop-nil}
@@ -16,7 +16,7 @@ use Rattle.laws.specs.Tables.{both, every}
 use Rattle.laws.specs.Integers.{at, pickZ}
 use Rattle.laws.proofs.Lists.{length-listOf, length-copies, count-append, count-copies}
 use Rattle.laws.proofs.Tables.{rule-at}
-use Rattle.en300401.specs.Puncturing.{rank, keeps, vector, Region, regionMask, tailMask, mask, keptSize, puncture, depuncture, ficProfile}
+use Rattle.en300401.specs.Puncturing.{rank, keeps, vector, Region, noRegion, regionMask, tailMask, mask, keptSize, puncture, depuncture, ficProfile}
 
 pub length-vector : (pi : ℕ) → length (vector pi) ≡ 32
 unfolding vector
@@ -63,10 +63,6 @@ pub data InTable : List Region → Type 0 where
   none-left : InTable []
   one-more : {r : Region} {rs : List Region} → r .pi ≤ 24 → InTable rs → InTable (r ∷ rs)
 
--- no region: no blocks, and no vector
-abbrev pub noRegion : Region
-noRegion = record { blocks = 0; pi = 0 }
-
 -- a region that is short, and empty or under one of the 24 vectors
 pub record OkRegion (r : Region) : Type 0 where
   pub short : r .blocks < 65536
@@ -102,6 +98,16 @@ pub kept-size : {rs : List Region} → InTable rs → keptSize rs ≡ sentIn rs 
 unfolding keptSize mask sentIn
 kept-size none-left = count-tail
 kept-size (one-more {r} {rs} h t) = count-append (regionMask r) (mask rs) ∙ omega (arith, count-region r h, kept-size t)
+
+-- and no region sends less than 36 bits of a block
+pub sent-least : (rs : List Region) → ((i : ℕ) → OkRegion (getD rs i noRegion)) → 36 * blocksIn rs ≤ sentIn rs
+unfolding blocksIn sentIn
+sent-least [] h = omega arith
+sent-least (r ∷ rs) h = omega (arith, one (r .blocks) (r .pi) (h 0 .named), sent-least rs (λ i. h (suc i)))
+  where
+    one : (b p : ℕ) → (0 < b → 0 < p) → b * 9 ≤ b * (8 + p)
+    one zero p n = rw (zero-mul, zero-mul) (omega arith)
+    one (suc b) p n = let q : 9 ≤ 8 + p = omega (arith, n (omega arith)) in mul-le-mul-left (suc b) q
 
 -- so the sizes are multiples of 4
 pub kept-fours : {rs : List Region} → InTable rs → keptSize rs % 4 ≡ 0

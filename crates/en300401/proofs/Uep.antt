@@ -12,9 +12,9 @@ use borrow.Author.Tests.{eqb-true}
 use Rattle.laws.specs.Tables.{both, every}
 use Rattle.laws.proofs.Lists.{found-passes, found-every}
 use Rattle.laws.proofs.Tables.{both-left, both-right, rule-at}
-use Rattle.en300401.specs.Puncturing.{Region, mask, keptSize}
-use Rattle.en300401.specs.Uep.{Row, uepTable, isFor, uepRow}
-use Rattle.en300401.proofs.Puncturing.{noRegion, OkRegion, Usable, blocksIn, sentIn, in-table, length-mask, kept-size}
+use Rattle.en300401.specs.Puncturing.{Region, noRegion, mask, keptSize}
+use Rattle.en300401.specs.Uep.{Row, noRow, uepTable, isFor, uepRow}
+use Rattle.en300401.proofs.Puncturing.{OkRegion, Usable, blocksIn, sentIn, in-table, length-mask, kept-size}
 
 -- the tests of a region and of a row
 isShort : Region → Bool
@@ -142,9 +142,6 @@ module _ (k l : ℕ) {p : Row} (e : uepRow k l ≡ some p) where
 place : (Row → Bool) → List Row → ℕ
 place f [] = 0
 place f (x ∷ xs) = cond (f x) 0 (suc (place f xs))
-
-abbrev pub noRow : Row
-noRow = record { rate = 0; level = 0; units = 0; regions = []; pad = 0 }
 
 own : ℕ → Row → Bool
 own i p = eqb (place (isFor (p .rate) (p .level)) uepTable) i

@@ -28,6 +28,10 @@ pub record Region : Type 0 where
   pub blocks : ℕ
   pub pi : ℕ
 
+-- no region: no blocks, and no vector
+abbrev pub noRegion : Region
+noRegion = record { blocks = 0; pi = 0 }
+
 unfoldable pub regionMask : Region → List Bool
 regionMask r = copies (r .blocks * 4) (vector (r .pi))
 

@@ -21,6 +21,10 @@ r l p = record { blocks = l; pi = p }
 abbrev row : ℕ → ℕ → ℕ → List Region → ℕ → Row
 row k l u rs p = record { rate = k; level = l; units = u; regions = rs; pad = p }
 
+-- no row: of no bit rate
+abbrev pub noRow : Row
+noRow = record { rate = 0; level = 0; units = 0; regions = []; pad = 0 }
+
 unfoldable pub uepTable : List Row
 uepTable =
     row 32 5 16 (r 3 5 ∷ r 4 3 ∷ r 17 2 ∷ r 0 0 ∷ []) 0

@@ -1,0 +1,82 @@
+-- What the depuncturers' promises say in their cases.
+-- Assumes nothing.
+use mathlib.Core.Path.{_≡_, refl, sym, ap, _∙_, subst}
+use mathlib.Core.Bool.{Bool}
+use mathlib.Core.List.{List, [], _∷_, _++_}
+use Prim.Native.Nat.{ℕ, zero, suc, _<_, _≤_}
+use native.Mathlib.Omega.{arith}
+use borrow.Author.Tests.{lt-ltb, le-ltb}
+use lib.Dec.{ltb}
+use lib.ListN.{length, drop}
+use lib.Seq.{sets}
+use lib.IntN.{ℤ}
+use Rattle.laws.proofs.Lists.{sets-front}
+use Rattle.en300401.specs.Puncturing.{Region, mask, depuncture}
+use Rattle.en300401.proofs.Puncturing.{Usable, length-depuncture}
+use Rattle.refusal.specs.declared.Refusal.{Refusal}
+use Rattle.refusal.specs.Outcome.{Outcome, refuses, outcome, unlessRefused, check, orElse, firstOf}
+use Rattle.refusal.proofs.Laws.{orElse-zero, first-append, first-refused}
+use Rattle.protection.specs.declared.Description.{Description}
+use Rattle.protection.specs.declared.Judged.{Judged}
+use Rattle.protection.specs.declared.Judged.the-variants.{«Accepted» as judged-accepted, «Refused» as judged-refused}
+use Rattle.protection.specs.Answers.{judgedAs}
+use Rattle.protection.specs.Params.{paramsOf, regionsIn}
+use Rattle.depuncturing.specs.Promises.{mscRefusalOf, DepuncturePromise, MscPromise}
+use Rattle.depuncturing.specs.Code.{Fillable}
+use Rattle.protection.specs.Refusals.{rowRefusals, shapeRefusals, refusalOf, roomOf, profileOf}
+use Rattle.protection.proofs.Params.{mask-by, mother-by, params-vectors}
+
+-- 1 to 8: 1 to 7, or else 8
+pub msc-split : (d : Description) (room : ℕ) → mscRefusalOf d room ≡ orElse (refusalOf d) (check 8 (ltb room (roomOf d)))
+unfolding mscRefusalOf refusalOf
+msc-split d room = first-append (rowRefusals d ++ shapeRefusals d) (check 8 (ltb room (roomOf d)) ∷ []) ∙ ap (orElse (firstOf (rowRefusals d ++ shapeRefusals d))) (orElse-zero (check 8 (ltb room (roomOf d))))
+
+-- the code's params of a profile are fillable where its mask is no longer than the room
+pub params-fillable : (rs : List Region) → Usable rs → (room : ℕ) → length (mask rs) ≤ room → Fillable (paramsOf rs) room
+params-fillable rs u room h = record { vectors = params-vectors rs u; fits = omega (arith, mother-by rs u) }
+
+module _ {n need : ℕ} {profile : List Region} {soft before after : List ℤ} {r : Judged} where
+  -- refused by k: nothing changed
+  pub fill-refused : (k : ℕ) → 0 < k → n ≡ k → judgedAs r ≡ outcome k tt → after ≡ before → DepuncturePromise n need profile soft before after r
+  fill-refused zero h e a p = absurd (omega arith)
+  fill-refused (suc k) h e a p =
+      record {
+        answer = a ∙ ap (λ (m : ℕ). outcome m tt) (sym e);
+        places = p ∙ ap (λ (m : ℕ). unlessRefused m (depuncture (mask profile) soft ++ drop need before) before) (sym e);
+      }
+
+  -- accepted: the code's params of the profile were filled in from the front
+  pub fill-given : n ≡ 0 → r ≡ judged-accepted → Usable profile → length (mask profile) ≡ need → need ≤ length before → after ≡ sets before 0 (depuncture (mask (regionsIn (paramsOf profile))) soft) → DepuncturePromise n need profile soft before after r
+  fill-given e a u l h p =
+      record {
+        answer = ap judgedAs a ∙ ap (λ (m : ℕ). outcome m tt) (sym e);
+        places =
+            p ∙ ap (λ (ks : List Bool). sets before 0 (depuncture ks soft)) (mask-by profile u)
+            ∙ sets-front (depuncture (mask profile) soft) before (omega (arith, length-depuncture (mask profile) soft))
+            ∙ ap (λ (m : ℕ). depuncture (mask profile) soft ++ drop m before) (length-depuncture (mask profile) soft ∙ l)
+            ∙ ap (λ (m : ℕ). unlessRefused m (depuncture (mask profile) soft ++ drop need before) before) (sym e);
+      }
+
+module _ (d : Description) (soft before : List ℤ) where
+  -- refused by 1 to 7
+  pub msc-refused : (x : Refusal) {j : Judged} → judgedAs j ≡ outcome (refusalOf d) tt → j ≡ judged-refused x → MscPromise d soft before before (judged-refused x)
+  msc-refused x {j} e q =
+      record {
+        answer = first-refused (refusalOf d) (check 8 (ltb (length before) (roomOf d))) tt tt (x .number) r ∙ ap (λ (m : ℕ). outcome m tt) (sym (msc-split d (length before)));
+        places = still (refusalOf d) r ∙ ap (λ (m : ℕ). unlessRefused m (depuncture (mask (profileOf d)) soft ++ drop (roomOf d) before) before) (sym (msc-split d (length before)));
+      }
+    where
+      r : _≡_ {A = Outcome (Unit {0})} (refuses (x .number)) (outcome (refusalOf d) tt)
+      r = sym (ap judgedAs q) ∙ e
+
+      still : (n : ℕ) → _≡_ {A = Outcome (Unit {0})} (refuses (x .number)) (outcome n tt) → before ≡ unlessRefused (orElse n (check 8 (ltb (length before) (roomOf d)))) (depuncture (mask (profileOf d)) soft ++ drop (roomOf d) before) before
+      still zero w = let z : _≡_ {A = ℕ} 0 1 = cc in absurd (omega arith)
+      still (suc n) w = refl
+
+  -- accepted by 1 to 7: 8, or no refusal
+  module _ (e : refusalOf d ≡ 0) where
+    pub room-short : length before < roomOf d → mscRefusalOf d (length before) ≡ 8
+    room-short h = msc-split d (length before) ∙ ap (λ (m : ℕ). orElse m (check 8 (ltb (length before) (roomOf d)))) e ∙ ap (check 8) (lt-ltb (length before) (roomOf d) h)
+
+    pub room-given : roomOf d ≤ length before → mscRefusalOf d (length before) ≡ 0
+    room-given h = msc-split d (length before) ∙ ap (λ (m : ℕ). orElse m (check 8 (ltb (length before) (roomOf d)))) e ∙ ap (check 8) (le-ltb (length before) (roomOf d) h)

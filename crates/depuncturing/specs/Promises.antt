@@ -1,0 +1,32 @@
+-- Document 01, "eep.rs" and "What the receiver owes": the refusals and the promises of the two depuncturers.
+use mathlib.Core.Path.{_≡_}
+use mathlib.Core.List.{List, [], _∷_, _++_}
+use Prim.Native.Nat.{ℕ, _+_, _*_}
+use lib.Dec.{ltb}
+use lib.ListN.{length, drop}
+use lib.IntN.{ℤ}
+use Rattle.en300401.specs.Puncturing.{Region, mask, depuncture, ficProfile}
+use Rattle.refusal.specs.Outcome.{outcome, unlessRefused, check, firstOf}
+use Rattle.protection.specs.declared.Description.{Description}
+use Rattle.protection.specs.declared.Judged.{Judged}
+use Rattle.protection.specs.Answers.{judgedAs}
+use Rattle.protection.specs.Refusals.{profileOf, rowRefusals, shapeRefusals, roomOf}
+
+-- 8: the room is short, after 1 to 7
+unfoldable pub mscRefusalOf : Description → ℕ → ℕ
+mscRefusalOf d room = firstOf (rowRefusals d ++ shapeRefusals d ++ (check 8 (ltb room (roomOf d)) ∷ []))
+
+-- 8 of the FIC
+abbrev pub ficRefusalOf : ℕ → ℕ
+ficRefusalOf room = check 8 (ltb room 3096)
+
+-- what stands in `out` afterwards: the depunctured values and then what was there; all as it was where the call is refused
+pub record DepuncturePromise (n need : ℕ) (profile : List Region) (soft before after : List ℤ) (r : Judged) : Type 0 where
+  pub answer : judgedAs r ≡ outcome n tt
+  pub places : after ≡ unlessRefused n (depuncture (mask profile) soft ++ drop need before) before
+
+abbrev pub MscPromise : Description → List ℤ → List ℤ → List ℤ → Judged → Type 0
+MscPromise d soft before after r = DepuncturePromise (mscRefusalOf d (length before)) (roomOf d) (profileOf d) soft before after r
+
+abbrev pub FicPromise : List ℤ → List ℤ → List ℤ → Judged → Type 0
+FicPromise soft before after r = DepuncturePromise (ficRefusalOf (length before)) 3096 ficProfile soft before after r

@@ -1,0 +1,4 @@
+pub mod Blocks
+pub mod Fibs
+pub mod Refusals
+pub mod Run

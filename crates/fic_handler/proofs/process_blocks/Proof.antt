@@ -1,0 +1,304 @@
+-- `fic_handler::process_blocks` meets its contract: the blocks done so far are a run.
+-- Assumes nothing.
+use mathlib.Core.Path.{_≡_, refl, sym, ap, _∙_, subst, subst₂}
+use mathlib.Core.List.{List, [], _∷_, _++_}
+use Prim.Native.Nat.{ℕ, _+_, _*_, _-_, _<_, _≤_}
+use native.Mathlib.Omega.{arith}
+use borrow.Author.Needs.{needs}
+use borrow.Rule.Slice.PartMut.{putMid, same-len-mid}
+use lib.IntN.{ℤ}
+use lib.ListN.{length, set, take, drop, length-append, length-take, length-drop}
+use Rattle.laws.specs.Lists.{listFrom}
+use Rattle.laws.proofs.Slices.{tail-part, tail-put}
+use Rattle.quality.specs.declared.Quality.{Quality}
+use Rattle.fic_handler.specs.Blocks.{joined, blockOf, dataBits, countOf, written, BlockProcessed, Lent, lent}
+use Rattle.fic_handler.specs.Promise.{Room, Processed}
+use Rattle.fic_handler.proofs.Run.{Run, run-none, run-next, behind}
+use Rattle.fic_handler.proofs.Fibs.{count-le}
+use Rattle.refusal.specs.Outcome.{gives}
+use Rattle.fic_handler.specs.declared.FicAnswer.the-variants.{Fibs}
+use Rattle.fic_handler.proofs.process_blocks.Statement.{statement}
+use Rattle.fic_handler.proofs.process_blocks.Tie as tie
+
+record Inv (xs : List ℤ) (n : ℕ) (before after : Lent) (passed : List ℕ) (quality : List Quality) (sum b : ℕ) : Type 0 where
+  inside : b ≤ n
+  long-depunctured : length (after .depunctured) ≡ length (before .depunctured)
+  long-words : length (after .words) ≡ length (before .words)
+  long-bits : length (after .bits) ≡ length (before .bits)
+  long-fibs : length (after .fibs) ≡ length (before .fibs)
+  run : Run xs before b sum passed quality after
+
+joined-length : (a b c : List ℤ) → length (joined a b c) ≡ length a + (length b + length c)
+joined-length a b c = length-append a (b ++ c) ∙ ap (λ (n : ℕ). length a + n) (length-append b c)
+
+room-left : {xs : List ℤ} {n : ℕ} {before after : Lent} {passed : List ℕ} {quality : List Quality} {sum b : ℕ} → Room n xs before → b < n → Inv xs n before after passed quality sum b → 32 * sum + 96 ≤ length (after .fibs)
+room-left r h v = omega (arith, v .run .few, v .long-fibs, r .out)
+
+block-length : {n b : ℕ} {before : Lent} {block : List ℤ} (x y z : List ℤ) → Room n (joined x y z) before → b < n → block ≡ take 2304 (drop (2304 * b) (joined x y z)) → length block ≡ 2304
+block-length {n} {b} x y z room h e = ap length e ∙ simp (length-take, length-drop) (omega (arith, room .whole))
+
+at-most-three : {values : List ℤ} {before after : Lent} {count : ℕ} {q : Quality} → BlockProcessed values before count q after → count ≤ 3
+at-most-three p = omega (arith, p .count-is, count-le (dataBits (p .block .decoded)) 3)
+
+-- one block more: the part of the output from byte 32 sum on was lent
+next : {xs : List ℤ} {n b sum count : ℕ} {before after : Lent} {passed : List ℕ} {quality : List Quality} {q : Quality} {block : List ℤ} {dep : List ℤ} {ws bs new : List ℕ} → b + 1 ≤ n → Room n xs before → b < n
+    → block ≡ take 2304 (drop (2304 * b) xs) → Inv xs n before after passed quality sum b
+    → BlockProcessed block (lent (after .depunctured) (after .words) (after .bits) (take (length (after .fibs) - 32 * sum) (drop (32 * sum) (after .fibs)))) count q (lent dep ws bs new)
+    → length dep ≡ length (after .depunctured) → length ws ≡ length (after .words) → length bs ≡ length (after .bits) → length new ≡ length (take (length (after .fibs) - 32 * sum) (drop (32 * sum) (after .fibs)))
+    → Inv xs n before (lent dep ws bs (putMid (32 * sum) (length (after .fibs) - 32 * sum) (after .fibs) new)) (set passed b count) (set quality b q) (sum + count) (b + 1)
+next {xs} {n} {b} {sum} {count} {before} {after} {passed} {quality} {q} {block} {dep} {ws} {bs} {new} inside room h e v p ld lw lb lf =
+    let fits : 32 * sum ≤ length (after .fibs) = omega (arith, room-left room h v) in
+    let one : BlockProcessed (blockOf xs b) (behind after sum) count q (lent dep ws bs new) =
+    subst₂ (λ (vs : List ℤ) (fs : List ℕ). BlockProcessed vs (lent (after .depunctured) (after .words) (after .bits) fs) count q (lent dep ws bs new)) e (tail-part (32 * sum) (after .fibs) fits) p in
+    record {
+      inside = inside;
+      long-depunctured = ld ∙ v .long-depunctured;
+      long-words = lw ∙ v .long-words;
+      long-bits = lb ∙ v .long-bits;
+      long-fibs = same-len-mid (32 * sum) (length (after .fibs) - 32 * sum) (after .fibs) new lf ∙ v .long-fibs;
+      run = subst (λ (fs : List ℕ). Run xs before (b + 1) (sum + count) (set passed b count) (set quality b q) (lent dep ws bs fs)) (sym (tail-put (32 * sum) (after .fibs) fits new)) (run-next xs before b sum count passed quality after (lent dep ws bs new) q (omega (arith, room .few)) (v .run) one);
+    }
+
+-- after the last block
+whole-run : {xs : List ℤ} {n b sum : ℕ} {before after : Lent} {passed : List ℕ} {quality : List Quality} → n ≤ b → Inv xs n before after passed quality sum b → Processed xs n before (record { answer = Fibs sum; passed = passed; quality = quality }) after
+whole-run {xs} {n} {b} {sum} {before} {after} {passed} {quality} h v = subst (λ (m : ℕ). Processed xs m before (record { answer = Fibs sum; passed = passed; quality = quality }) after) same made
+  where
+    same : b ≡ n
+    same = omega (arith, v .inside)
+
+    r : Run xs before b sum passed quality after
+    r = v .run
+
+    made : Processed xs b before (record { answer = Fibs sum; passed = passed; quality = quality }) after
+    made =
+        record {
+          block = r .block;
+          each = r .each;
+          answer = ap gives (r .sum-is);
+          passed = r .counts-are;
+          quality = r .qualities-are;
+          depunctured = r .depunctured-are;
+          words = r .words-are;
+          bits = r .bits-are;
+          fibs = r .fibs-are ∙ ap (λ (m : ℕ). written (r .block) b ++ drop (32 * m) (before .fibs)) (r .sum-is);
+        }
+
+abbrev Inv-loop : tie.InvT-loop
+Inv-loop first second third n depunctured₀ words₀ bits₀ fibs₀ passed₀ quality₀ sum₀ b₀ depunctured words bits fibs passed quality sum b = Inv (joined first second third) n (lent depunctured₀ words₀ bits₀ fibs₀) (lent depunctured words bits fibs) passed quality sum b
+
+abbrev μ-loop : tie.MeasureT-loop
+μ-loop first second third n depunctured₀ words₀ bits₀ fibs₀ passed₀ quality₀ sum₀ b₀ depunctured words bits fibs passed quality sum b = n - b
+
+none-requires : tie.Need-none-requires Inv-loop μ-loop
+none-requires c κs = tt
+
+loop-holds : tie.Need-loop-holds Inv-loop μ-loop
+unfolding listFrom
+loop-holds c =
+    let start = c .before .before .before .before in
+    let absent : Quality → List Quality = λ q. q ∷ q ∷ q ∷ q ∷ [] in
+    record {
+      inside = omega arith;
+      long-depunctured = refl;
+      long-words = refl;
+      long-bits = refl;
+      long-fibs = refl;
+      run = run-none (joined (start .args .first .now) (start .args .second .now) (start .args .third .now)) _ _ _ refl (ap absent (c .none .ensures));
+    }
+
+mul-gather : tie.Need-mul-gather Inv-loop μ-loop
+mul-gather c =
+    let turn = c .before in
+    let taken = c .loop-test .taken in
+    let start = turn .before .before .before .before .before in
+    let v = turn .loop .inv in
+    let room = start .pre in
+    omega (arith, room .few)
+
+gather-requires : tie.Need-gather-requires Inv-loop μ-loop
+gather-requires c κs =
+    let turn = c .before in
+    let taken = c .loop-test .taken in
+    let start = turn .before .before .before .before .before in
+    let v = turn .loop .inv in
+    let room = start .pre in
+    let all = joined-length (start .args .first .now) (start .args .second .now) (start .args .third .now) in
+    omega (arith, room .few, room .whole)
+
+mul-at : tie.Need-mul-at Inv-loop μ-loop
+mul-at c =
+    let turn = c .before .before in
+    let taken = c .before .loop-test .taken in
+    let start = turn .before .before .before .before .before in
+    let v = turn .loop .inv in
+    let room = start .pre in
+    omega (arith, room .few, v .run .few)
+
+slice-aggregate-process-block : tie.Need-slice-aggregate-process-block Inv-loop μ-loop
+slice-aggregate-process-block c =
+    let turn = c .before .before .before in
+    let taken = c .before .before .loop-test .taken in
+    let start = turn .before .before .before .before .before in
+    let v = turn .loop .inv in
+    let room = start .pre in
+    sym (block-length (start .args .first .now) (start .args .second .now) (start .args .third .now) room taken (c .before .gather .ensures))
+
+sub-process-block : tie.Need-sub-process-block Inv-loop μ-loop
+sub-process-block c =
+    let turn = c .before .before .before .before .before .before in
+    let taken = c .before .before .before .before .before .loop-test .taken in
+    let start = turn .before .before .before .before .before in
+    let v = turn .loop .inv in
+    let room = start .pre in
+    omega (arith, room-left room taken v)
+
+part-process-block-start : tie.Need-part-process-block-start Inv-loop μ-loop
+part-process-block-start c =
+    let turn = c .before .before .before .before .before .before in
+    let taken = c .before .before .before .before .before .loop-test .taken in
+    let start = turn .before .before .before .before .before in
+    let v = turn .loop .inv in
+    let room = start .pre in
+    omega (arith, room-left room taken v)
+
+part-process-block-end : tie.Need-part-process-block-end Inv-loop μ-loop
+part-process-block-end c =
+    search needs
+
+process-block-requires : tie.Need-process-block-requires Inv-loop μ-loop
+process-block-requires c κs =
+    let turn = c .before .before .before .before .before .before .before in
+    let taken = c .before .before .before .before .before .before .loop-test .taken in
+    let start = turn .before .before .before .before .before in
+    let v = turn .loop .inv in
+    let room = start .pre in
+    record {
+      whole = block-length (start .args .first .now) (start .args .second .now) (start .args .third .now) room taken (c .before .before .before .before .before .gather .ensures);
+      values = subst (λ (m : ℕ). 3096 ≤ m) (sym (v .long-depunctured)) (room .values);
+      choices = subst (λ (m : ℕ). 774 ≤ m) (sym (v .long-words)) (room .choices);
+      places = subst (λ (m : ℕ). 774 ≤ m) (sym (v .long-bits)) (room .places);
+      out = rw (ap length (tail-part (32 * turn .loop .sum) (turn .loop .fibs) (omega (arith, room-left room taken v)))) (simp length-drop (omega (arith, room-left room taken v)));
+    }
+
+mul-passed : tie.Need-mul-passed Inv-loop μ-loop
+mul-passed c =
+    let turn = c .before .before .before .before .before .before .before .before .before .before .before .before .before .before .before in
+    let taken = c .before .before .before .before .before .before .before .before .before .before .before .before .before .before .loop-test .taken in
+    let start = turn .before .before .before .before .before in
+    let v = turn .loop .inv in
+    let room = start .pre in
+    omega (arith, room .few)
+
+array-write-passed : tie.Need-array-write-passed Inv-loop μ-loop
+array-write-passed c =
+    let turn = c .before .before .before .before .before .before .before .before .before .before .before .before .before .before .before in
+    let taken = c .before .before .before .before .before .before .before .before .before .before .before .before .before .before .loop-test .taken in
+    let start = turn .before .before .before .before .before in
+    let v = turn .loop .inv in
+    let room = start .pre in
+    omega (arith, room .few)
+
+mul-quality : tie.Need-mul-quality Inv-loop μ-loop
+mul-quality c =
+    let turn = c .before .before .before .before .before .before .before .before .before .before .before .before .before .before .before .before in
+    let taken = c .before .before .before .before .before .before .before .before .before .before .before .before .before .before .before .loop-test .taken in
+    let start = turn .before .before .before .before .before in
+    let v = turn .loop .inv in
+    let room = start .pre in
+    omega (arith, room .few)
+
+array-set-from-quality : tie.Need-array-set-from-quality Inv-loop μ-loop
+array-set-from-quality c =
+    let turn = c .before .before .before .before .before .before .before .before .before .before .before .before .before .before .before .before in
+    let taken = c .before .before .before .before .before .before .before .before .before .before .before .before .before .before .before .loop-test .taken in
+    let start = turn .before .before .before .before .before in
+    let v = turn .loop .inv in
+    let room = start .pre in
+    omega (arith, room .few)
+
+add-sum : tie.Need-add-sum Inv-loop μ-loop
+add-sum c =
+    let turn = c .before .before .before .before .before .before .before .before .before .before .before .before .before .before .before .before .before in
+    let taken = c .before .before .before .before .before .before .before .before .before .before .before .before .before .before .before .before .loop-test .taken in
+    let start = turn .before .before .before .before .before in
+    let v = turn .loop .inv in
+    let room = start .pre in
+    omega (arith, room .few, v .run .few, at-most-three (c .before .before .before .before .before .before .before .before .before .process-block .ensures))
+
+add-b : tie.Need-add-b Inv-loop μ-loop
+add-b c =
+    let turn = c .before .before .before .before .before .before .before .before .before .before .before .before .before .before .before .before .before in
+    let taken = c .before .before .before .before .before .before .before .before .before .before .before .before .before .before .before .before .loop-test .taken in
+    let start = turn .before .before .before .before .before in
+    let v = turn .loop .inv in
+    let room = start .pre in
+    omega (arith, room .few)
+
+loop-less : tie.Need-loop-less Inv-loop μ-loop
+loop-less c =
+    let turn = c .before .before .before .before .before .before .before .before .before .before .before .before .before .before .before .before .before in
+    let taken = c .before .before .before .before .before .before .before .before .before .before .before .before .before .before .before .before .loop-test .taken in
+    let start = turn .before .before .before .before .before in
+    let v = turn .loop .inv in
+    let room = start .pre in
+    omega arith
+
+loop-again : tie.Need-loop-again Inv-loop μ-loop
+loop-again c =
+    let turn = c .before .before .before .before .before .before .before .before .before .before .before .before .before .before .before .before .before in
+    let taken = c .before .before .before .before .before .before .before .before .before .before .before .before .before .before .before .before .loop-test .taken in
+    let start = turn .before .before .before .before .before in
+    let v = turn .loop .inv in
+    let room = start .pre in
+    let done = c .before .before .before .before .before .before .before .before .before .process-block in
+    next (omega arith) room taken (c .before .before .before .before .before .before .before .before .before .before .before .before .before .before .before .gather .ensures) v (done .ensures) (done .kept .1 .0) (done .kept .1 .1 .0) (done .kept .1 .1 .1 .0) (done .kept .1 .1 .1 .1 .0)
+
+same-length : tie.Need-same-length Inv-loop μ-loop
+same-length c =
+    c .before .loop .inv .long-depunctured
+
+same-length-2 : tie.Need-same-length-2 Inv-loop μ-loop
+same-length-2 c =
+    c .before .loop .inv .long-words
+
+same-length-3 : tie.Need-same-length-3 Inv-loop μ-loop
+same-length-3 c =
+    c .before .loop .inv .long-bits
+
+same-length-4 : tie.Need-same-length-4 Inv-loop μ-loop
+same-length-4 c =
+    c .before .loop .inv .long-fibs
+
+returns : tie.Need-returns Inv-loop μ-loop
+returns c =
+    whole-run (omega arith) (c .before .loop .inv)
+
+pub process-blocks-spec : {M : Type 1} → statement M
+process-blocks-spec =
+    tie.close
+    (tie.spec
+    Inv-loop
+    μ-loop
+    none-requires
+    loop-holds
+    mul-gather
+    gather-requires
+    mul-at
+    slice-aggregate-process-block
+    sub-process-block
+    part-process-block-start
+    part-process-block-end
+    process-block-requires
+    mul-passed
+    array-write-passed
+    mul-quality
+    array-set-from-quality
+    add-sum
+    add-b
+    loop-less
+    loop-again
+    same-length
+    same-length-2
+    same-length-3
+    same-length-4
+    returns)

@@ -1,0 +1,90 @@
+-- Document 01, fic/handler.rs, refusals 11 and 8, Room: what three symbols give.
+use mathlib.Core.Path.{_≡_}
+use mathlib.Core.Bool.{Bool, true, false}
+use mathlib.Core.List.{List, [], _∷_, _++_}
+use Prim.Native.Nat.{ℕ, zero, suc, _+_, _*_, _/_, _<_, _≤_}
+use lib.Dec.{ltb}
+use lib.ListN.{length, drop}
+use lib.IntN.{ℤ}
+use Rattle.laws.specs.Lists.{listOf}
+use Rattle.refusal.specs.Outcome.{check, firstOf, Outcome, gives, refuses}
+use Rattle.quality.specs.declared.Quality.{Quality}
+use Rattle.quality.specs.Figures.{qualityOf, nothing}
+use Rattle.fic_handler.specs.declared.FicAnswer.{FicAnswer}
+use Rattle.fic_handler.specs.declared.FicAnswer.the-variants.{Fibs, Refused}
+use Rattle.fic_handler.specs.declared.Fic.{Fic}
+use Rattle.fic_handler.specs.Blocks.{joined, blocksIn, received, dataBits, countOf, Block, IsBlock, Lent, written, total}
+
+-- 11: a symbol over 3,072 values
+unfoldable pub tooLong : List ℤ → ℕ
+tooLong s = check 11 (ltb 3072 (length s))
+
+-- 8: a lent buffer shorter than its room: 3,096 values, 774 words, 774 bits, and 96 bytes for each whole block
+unfoldable pub noRoom : ℕ → Lent → List ℕ
+noRoom blocks l =
+    check 8 (ltb (length (l .depunctured)) 3096) ∷ check 8 (ltb (length (l .words)) 774) ∷ check 8 (ltb (length (l .bits)) 774) ∷ check 8 (ltb (length (l .fibs)) (96 * blocks)) ∷ []
+
+-- the first refusal of a call, 11 before 8; 0 for none
+unfoldable pub refusalOf : List ℤ → List ℤ → List ℤ → Lent → ℕ
+refusalOf s1 s2 s3 l = firstOf (tooLong s1 ∷ tooLong s2 ∷ tooLong s3 ∷ noRoom (blocksIn (joined s1 s2 s3)) l)
+
+-- how many FIBs, or the number
+abbrev pub answerOf : FicAnswer → Outcome ℕ
+answerOf (Fibs n) = gives n
+answerOf (Refused r) = refuses (r .number)
+
+-- a value for each of the four blocks: of the first n its own, of the others none
+module _ {ℓ} {A : Type ℓ} where
+  abbrev pub within : Bool → A → A → A
+  within true a b = a
+  within false a b = b
+
+  abbrev pub four : ℕ → (ℕ → A) → A → List A
+  four n f absent = listOf 4 (λ (b : ℕ). within (ltb b n) (f b) absent)
+
+-- the work buffers after n blocks: the last block's values, choices and bits, each before the rest as it was; as they were after none
+unfoldable pub workAfter : List ℤ → (ℕ → Block) → ℕ → Lent → Lent
+workAfter xs k zero l = l
+workAfter xs k (suc n) l =
+    record {
+      depunctured = received xs n ++ drop 3096 (l .depunctured);
+      words = k n .choices ++ drop 774 (l .words);
+      bits = (dataBits (k n .decoded) ++ drop 768 (k n .decoded)) ++ drop 774 (l .bits);
+      fibs = l .fibs;
+    }
+
+-- the outcome of n whole blocks
+pub record Processed (xs : List ℤ) (n : ℕ) (before : Lent) (r : Fic) (after : Lent) : Type 0 where
+  pub block : ℕ → Block
+  pub each : (b : ℕ) → b < n → IsBlock xs b (block b)
+  pub answer : answerOf (r .answer) ≡ gives (total block n)
+  pub passed : r .passed ≡ four n (λ (b : ℕ). countOf (dataBits (block b .decoded)) 3) 0
+  pub quality : r .quality ≡ four n (λ (b : ℕ). qualityOf (block b .metric) (received xs b)) nothing
+  pub depunctured : after .depunctured ≡ workAfter xs block n before .depunctured
+  pub words : after .words ≡ workAfter xs block n before .words
+  pub bits : after .bits ≡ workAfter xs block n before .bits
+  pub fibs : after .fibs ≡ written block n ++ drop (32 * total block n) (before .fibs)
+
+-- n blocks are there, and the lent memory has room for them
+pub record Room (n : ℕ) (xs : List ℤ) (l : Lent) : Type 0 where
+  pub few : n ≤ 4
+  pub whole : 2304 * n ≤ length xs
+  pub values : 3096 ≤ length (l .depunctured)
+  pub choices : 774 ≤ length (l .words)
+  pub places : 774 ≤ length (l .bits)
+  pub out : 96 * n ≤ length (l .fibs)
+
+-- a refusal's answer: its number, four zero counts and records
+pub record Away (number : ℕ) (r : Fic) : Type 0 where
+  pub answer : answerOf (r .answer) ≡ refuses number
+  pub passed : r .passed ≡ 0 ∷ 0 ∷ 0 ∷ 0 ∷ []
+  pub quality : r .quality ≡ nothing ∷ nothing ∷ nothing ∷ nothing ∷ []
+
+-- by the first refusal: none, and the whole blocks are processed; or one, and nothing is changed
+unfoldable pub Outcomes : ℕ → List ℤ → Lent → Fic → Lent → Type 0
+Outcomes zero xs before r after = Processed xs (blocksIn xs) before r after
+Outcomes (suc number) xs before r after = Away (suc number) r × (after ≡ before)
+
+-- the promise of `process_fic`
+pub record FicPromise (s1 s2 s3 : List ℤ) (before : Lent) (r : Fic) (after : Lent) : Type 0 where
+  pub outcome : Outcomes (refusalOf s1 s2 s3 before) (joined s1 s2 s3) before r after

@@ -1,0 +1,2 @@
+-- The rules of the two long tables.
+pub mod Rules

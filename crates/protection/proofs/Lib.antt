@@ -1,0 +1,8 @@
+-- Laws of descriptions that the proofs share, and that callers cite.
+pub mod Cases
+pub mod Params
+pub mod Profiles
+pub mod Rows
+pub mod Shapes
+pub mod Sizes
+pub mod Unique

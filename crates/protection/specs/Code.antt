@@ -1,0 +1,26 @@
+-- What the private functions of the crate ask and promise: the code's own terms, over the standard's definitions.
+use Prim.Native.Nat.{ℕ, _+_, _*_, _-_, _<_, _≤_}
+use lib.ListN.{getD}
+use Rattle.en300401.specs.Eep.{levelOf}
+use Rattle.protection.specs.declared.EepLevel.{EepLevel}
+use Rattle.protection.specs.declared.ProtectionParams.{ProtectionParams}
+
+-- a level's row with `pi` counted from 0
+unfoldable pub levelRow : ℕ → ℕ → EepLevel
+levelRow o l = record { fold1 = levelOf o l .fold1; fold2 = levelOf o l .fold2; pi1 = levelOf o l .pi1 - 1; pi2 = levelOf o l .pi2 - 1 }
+
+-- numbers that no sum or product of the sizes overflows with
+pub record Bounded (p : ProtectionParams) : Type 0 where
+  pub blocks : (i : ℕ) → getD (p .blocks) i 0 < 65536
+  pub pi : (i : ℕ) → getD (p .pi) i 0 ≤ 24
+
+-- the blocks of the four regions, and the bits that region i sends
+abbrev pub blocksBy : ProtectionParams → ℕ
+blocksBy p = getD (p .blocks) 0 0 + getD (p .blocks) 1 0 + getD (p .blocks) 2 0 + getD (p .blocks) 3 0
+
+abbrev pub sentOf : ℕ → ℕ → ℕ
+sentOf blocks pi = 4 * (blocks * (9 + pi))
+
+abbrev pub sentBy : ProtectionParams → ℕ
+sentBy p =
+    sentOf (getD (p .blocks) 0 0) (getD (p .pi) 0 0) + sentOf (getD (p .blocks) 1 0) (getD (p .pi) 1 0) + sentOf (getD (p .blocks) 2 0) (getD (p .pi) 2 0) + sentOf (getD (p .blocks) 3 0) (getD (p .pi) 3 0)

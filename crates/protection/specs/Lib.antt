@@ -1,0 +1,5 @@
+pub mod Answers
+pub mod Code
+pub mod Params
+pub mod Promises
+pub mod Refusals
