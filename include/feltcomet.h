@@ -4,6 +4,27 @@
  *
  * Every function takes every input, judges it itself and returns. A slice is a pointer and then a length in elements; a length of 0 may go
  * with any pointer that is not null. Lent buffers must not overlap each other: the proofs are of a language in which they cannot.
+ *
+ * A function that can turn the caller away returns 0 where it is done and else the number of the first refusal below that holds, in the
+ * order that stands with the function. After a refusal all lent memory is as it was. Lent memory beyond the need is never touched.
+ *
+ *    1  EEP option above 1
+ *    2  EEP level above 3
+ *    3  L1 negative: the bit rate is too low for the level
+ *    4  no UEP profile for rate and level
+ *    5  EEP: the size differs from what is needed; UEP: it is less, or over by more than 8 values
+ *    6  EEP bit rate no multiple of 8 (option 0) or 32 (option 1)
+ *    7  start plus size above 864 units
+ *    8  a lent buffer shorter than its room
+ *    9  a symbol under 3,072 values
+ *   10  a state with symbols above 17, CIF in frame above 3, ring index above 15, count above 17, or a description refused by 1 to 7
+ *   11  a FIC symbol over 3,072 values, or decoder input over 65,536 whole steps
+ *
+ * A soft value is positive for 1, negative for 0 and zero for an erasure; -128 is legal and has weight 128.
+ *
+ * A sub-channel's description is six numbers, as FIG 0/1 gives them: start and size in capacity units of 64 values, bit rate in kbit/s,
+ * protection level (EEP: 0 to 3 for 1-A to 4-A and 1-B to 4-B; UEP: 1 to 5), EEP option (0 for A, 1 for B), and whether it is EEP: 0 no,
+ * any other number yes. For UEP the option is not looked at.
  */
 #ifndef FELTCOMET_H
 #define FELTCOMET_H
@@ -25,6 +46,52 @@ bool feltcomet_fib_crc_valid(const uint8_t *fib, size_t length);
 
 /* Whether these are the 256 zeros and ones, high bits first, of a FIB with a good CRC. Any other length or value: no. */
 bool feltcomet_check_crc_bits(const uint8_t *bits, size_t length);
+
+/* Whether a receiver takes the description: 0, or its first refusal of 1 to 7 (UEP: 4, 5, 7). */
+uint8_t feltcomet_judge(uint16_t start_addr, uint16_t sub_size, uint16_t bitrate, uint8_t protection_level, uint8_t eep_option,
+                        uint32_t is_eep);
+
+/* The protection profile of a description, whatever its place and size: row[0] to row[3] are the blocks of its four regions, row[4] to
+ * row[7] their puncturing vectors PI counted from 0, and 24 where a region is empty. Refusals 1 to 4, then 8 under eight places. */
+uint8_t feltcomet_profile(uint16_t start_addr, uint16_t sub_size, uint16_t bitrate, uint8_t protection_level, uint8_t eep_option,
+                          uint32_t is_eep, uint64_t *row, size_t length);
+
+/* How many values the profile of a description sends, into size[0]. Refusals 1 to 4, then 8 with no place. */
+uint8_t feltcomet_needed_size(uint16_t start_addr, uint16_t sub_size, uint16_t bitrate, uint8_t protection_level, uint8_t eep_option,
+                              uint32_t is_eep, uint64_t *size, size_t length);
+
+/* How many values they become when depunctured, into size[0]. Refusals 1 to 4, then 8 with no place. */
+uint8_t feltcomet_depunctured_size(uint16_t start_addr, uint16_t sub_size, uint16_t bitrate, uint8_t protection_level, uint8_t eep_option,
+                                   uint32_t is_eep, uint64_t *size, size_t length);
+
+/* Depunctures a sub-channel's values into the first 96 x bitrate + 24 places of out: 0 in each place that is not sent, and where the
+ * input is short; surplus input is not read. Refusals 1 to 7, then 8. */
+uint8_t feltcomet_depuncture_msc(const int8_t *soft, size_t soft_length, uint16_t start_addr, uint16_t sub_size, uint16_t bitrate,
+                                 uint8_t protection_level, uint8_t eep_option, uint32_t is_eep, int8_t *out, size_t out_length);
+
+/* Depunctures a block of the FIC, 2,304 values, into the first 3,096 places of out, in the same way. Refusal 8. */
+uint8_t feltcomet_depuncture_fic(const int8_t *soft, size_t soft_length, int8_t *out, size_t out_length);
+
+/* Viterbi decoding of the mother code (clause 11.1): four soft values make a step, and one to three left over are ignored. A step takes
+ * one place of words and one of bits. bits gets the decoded bits, the oldest first; bit s of words[t] is 1 where the best path of t + 1
+ * steps into state s comes from the higher predecessor; metric[0] gets the best path's score less all that was subtracted, 0 where there
+ * is no step. Refusal 11, then 8 where words or bits have fewer places than steps or metric has none.
+ * The first permits the paths that end in state 0, the second every path. */
+uint8_t feltcomet_viterbi_decode_state0(const int8_t *soft, size_t soft_length, uint64_t *words, size_t words_length, uint8_t *bits,
+                                        size_t bits_length, int32_t *metric, size_t metric_length);
+uint8_t feltcomet_viterbi_decode_with_metric(const int8_t *soft, size_t soft_length, uint64_t *words, size_t words_length, uint8_t *bits,
+                                             size_t bits_length, int32_t *metric, size_t metric_length);
+
+/* FIC handling: three symbols of up to 3,072 soft values each, joined in order and cut into blocks of 2,304 (the rest is dropped), to FIBs whose
+ * CRC is good. Refusals: 11 where a symbol is longer; then 8 where depunctured has under 3,096 places, words or bits under 774 (even with no
+ * whole block), fibs under 96 for each whole block, counts under 5, metrics under 8 or percents under 4.
+ * Done (0): the passed FIBs stand at the start of fibs, 32 bytes each; counts[0] says how many, counts[1] to counts[4] how many of each of
+ * the four blocks; metrics[b] is block b's metric, metrics[4 + b] the sum of its absolute values, percents[b] the first divided by the second,
+ * times 100, which can be negative; all zero for a block that is not there. What the work buffers hold is in docs/BUFFERS.md. */
+uint8_t feltcomet_process_fic(const int8_t *first, size_t first_length, const int8_t *second, size_t second_length, const int8_t *third,
+                              size_t third_length, int8_t *depunctured, size_t depunctured_length, uint64_t *words, size_t words_length,
+                              uint8_t *bits, size_t bits_length, uint8_t *fibs, size_t fibs_length, uint64_t *counts, size_t counts_length,
+                              int32_t *metrics, size_t metrics_length, double *percents, size_t percents_length);
 
 #ifdef __cplusplus
 }

@@ -37,13 +37,23 @@ impl<T: Copy + PartialEq> Lent<T> {
         self.whole[MARGIN..].as_mut_ptr()
     }
 
-    /// What the call left of memory that it may write.
-    pub fn left(self) -> Answer<Vec<T>> {
+    /// What the calls so far have left of memory that they may write.
+    pub fn held(&self) -> Answer<&[T]> {
         let end = MARGIN + self.len;
         if self.whole[..MARGIN] != self.before[..MARGIN] || self.whole[end..] != self.before[end..] {
             return Err("memory outside a lent buffer was written");
         }
-        Ok(self.whole[MARGIN..end].to_vec())
+        Ok(&self.whole[MARGIN..end])
+    }
+
+    /// The same, where no other call follows.
+    pub fn left(self) -> Answer<Vec<T>> {
+        self.held().map(<[T]>::to_vec)
+    }
+
+    /// Other contents between two calls.
+    pub fn refill(&mut self, values: &[T]) {
+        self.whole[MARGIN..][..self.len].copy_from_slice(values);
     }
 
     /// Sees that memory lent for reading is as it was.

@@ -3,6 +3,8 @@
 //! A record: one byte of kind, two of input length, the input, two of answer length, the answer;
 //! numbers low byte first. Only inputs inside the domain, where both sides must agree.
 
+use crate::air::{Air, KINDS, Kind, symbol};
+use crate::checks::process_fic::symbols;
 use crate::checks::{CHECKS, Run};
 use crate::description::Description;
 use crate::model::fib::{bits_of, with_crc};
@@ -45,6 +47,8 @@ const FILES: &[(&str, &str, Recorder)] = &[
     ("viterbi_decode_with_metric", "viterbi_decode_with_metric", |to, random| {
         decoder(9, theirs::viterbi_decode_with_metric, to, random);
     }),
+    ("process_fic", "process_fic", process_fic),
+    ("feed_symbol", "feed_symbol", feed_symbol),
 ];
 
 pub fn all(folder: &Path, run: &Run) -> Result<(), String> {
@@ -198,6 +202,43 @@ fn decoder(kind: u8, rust: fn(&[i8]) -> (Vec<u8>, i32), to: &mut Records, random
         let word = mother_code(&random.bits(steps - 6));
         add(&received(&word, 8, 25, random));
     }
+}
+
+/// Three lengths in two bytes each, then the values; the FIBs.
+fn process_fic(to: &mut Records, random: &mut Random) {
+    let mut add = |lengths: [usize; 3]| {
+        let symbols = symbols(lengths, random);
+        let symbols = [&symbols[0][..], &symbols[1][..], &symbols[2][..]];
+        let input = [lengths.map(|n| (n as u16).to_le_bytes()).concat(), bytes(&symbols.concat())].concat();
+        to.add(10, &input, &theirs::process_fic(symbols).0.concat());
+    };
+    for _ in 0..6 {
+        add([3_072; 3]);
+    }
+    for lengths in [[0; 3], [2_303, 0, 0], [0, 2_304, 0], [1_000, 3, 1_301], [3_072, 1_535, 0], [1, 3_072, 1_535]] {
+        add(lengths);
+    }
+}
+
+/// CIF after CIF since set-up: the 256 values of a sub-channel of 8 kbit/s, option 0, level 3, at the
+/// start of the CIF, whose other values are 0. The frames in order.
+fn feed_symbol(to: &mut Records, random: &mut Random) {
+    let d = fitted(Description::eep(0, 3, 8)).unwrap();
+    let mut add = |cifs: usize, kinds: &[Kind]| {
+        let (mut air, mut rust) = (Air::new(&d), theirs::Receiver::new(&d).unwrap());
+        let (mut input, mut frames) = (Vec::new(), Vec::new());
+        for _ in 0..cifs {
+            let mut cif = air.cif(*random.pick(kinds), random).0;
+            cif[256..].fill(0);
+            input.extend(bytes(&cif[..256]));
+            frames.extend((0..18).filter_map(|n| rust.feed(symbol(&cif, n)).0).flatten());
+        }
+        to.add(11, &input, &frames);
+    };
+    add(40, &[Kind::Clean]);
+    add(24, &[Kind::Noisy, Kind::Poor]);
+    add(24, &KINDS);
+    add(16, &[Kind::Strong]);
 }
 
 fn bytes(soft: &[i8]) -> Vec<u8> {

@@ -14,6 +14,37 @@ pub fn shapes() -> Vec<Description> {
     eep.chain(uep).filter_map(fitted).filter(|d| d.sub_size <= 864).collect()
 }
 
+/// Those of at most 24 units, which are quick to decode.
+pub fn small_shapes() -> Vec<Description> {
+    shapes().into_iter().filter(|d| d.sub_size <= 24).collect()
+}
+
+/// Every option and level at rates from the least to the widest, and every UEP row.
+pub fn spread(random: &mut Random) -> Vec<Description> {
+    let shapes = shapes();
+    let of = |option: u8, level: u8| {
+        let this = move |d: &&Description| d.is_eep() && (d.eep_option, d.protection_level) == (option, level);
+        shapes.iter().filter(this).copied().collect::<Vec<_>>()
+    };
+    let mut chosen = Vec::new();
+    for (option, level) in (0..8).map(|i| (i / 4, i % 4)) {
+        let rates = of(option, level);
+        let last = rates.len() - 1;
+        chosen.extend([0, 1, 2, last / 8, last / 3, random.below(last), last].map(|i| rates[i]));
+    }
+    chosen.extend(shapes.into_iter().filter(|d| !d.is_eep()));
+    chosen
+}
+
+/// The description at any place where it fits, with what does not matter in it written another way.
+pub fn anywhere_in_cif(d: &Description, random: &mut Random) -> Description {
+    let last = 864 - usize::from(d.sub_size);
+    let some = random.below(last + 1);
+    let start = *random.pick(&[0, last, some, some]);
+    let eep_option = if d.is_eep() { d.eep_option } else { random.byte() };
+    Description { eep_option, ..d.at(start as u16).flagged(random) }
+}
+
 /// The description with the size that it needs, in units rounded up, where it has a row and the
 /// size is one.
 pub fn fitted(d: Description) -> Option<Description> {

@@ -13,6 +13,8 @@ pub struct Tally {
     pub modelled: u64,
     /// Of those, where the Rust answers otherwise, as docs/DIFFERENCES.md lists.
     pub listed: u64,
+    /// What else the comparison counted, in words.
+    pub note: String,
 }
 
 impl Tally {

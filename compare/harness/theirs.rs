@@ -1,9 +1,11 @@
 //! The Rust original, as the comparisons call it.
 
 use crate::description::Description;
+use crate::stores::Percent;
 use dabradio::fec::{eep, uep};
 use dabradio::msc::MscHandler;
 use std::panic::catch_unwind;
+use tracing::{Event, Value, recorded};
 
 pub use dabradio::constants::fib_crc_valid;
 pub use dabradio::fec::eep::depuncture_fic;
@@ -65,5 +67,71 @@ impl Protection {
             Self::Eep(p) => eep::depuncture_msc(soft, p),
             Self::Uep(p) => uep::depuncture(soft, p),
         }
+    }
+}
+
+/// What the original logs of one decoding.
+#[derive(Debug, Clone, PartialEq)]
+pub struct Logged {
+    pub metric: i32,
+    pub sum: i32,
+    /// The percentage, as far as the line has it: the FIC's has one decimal.
+    pub percent: Value,
+}
+
+impl Logged {
+    /// The percentage of a line that has all of it.
+    pub fn percent(&self) -> Percent {
+        match self.percent {
+            Value::Float(percent) => Percent(percent),
+            _ => panic!("a rounded percentage: {self:?}"),
+        }
+    }
+}
+
+/// The quality lines among all that a call logged.
+fn logged(events: &[Event], message: &str) -> Vec<Logged> {
+    let number = |event: &Event, name: &str| match event.field(name) {
+        Some(Value::Number(n)) => *n as i32,
+        other => panic!("{message}: {name} is {other:?}"),
+    };
+    let lines = events.iter().filter(|event| event.message == message);
+    let told = |event: &Event| Logged {
+        metric: number(event, "metric"),
+        sum: number(event, "achievable"),
+        percent: event.field("pct").cloned().expect("a percentage"),
+    };
+    lines.map(told).collect()
+}
+
+/// The FIBs, and a line for each block.
+pub fn process_fic(symbols: [&[i8]; 3]) -> (Vec<[u8; 32]>, Vec<Logged>) {
+    let symbols = symbols.map(<[i8]>::to_vec);
+    let (fibs, events) = recorded(|| dabradio::fic::handler::process_fic(&symbols));
+    (fibs, logged(&events, "FIC Viterbi metric"))
+}
+
+/// The original's receiver of one sub-channel.
+pub struct Receiver {
+    handler: MscHandler,
+}
+
+impl Receiver {
+    pub fn new(d: &Description) -> Option<Self> {
+        MscHandler::new(&d.for_rust()).map(|handler| Self { handler })
+    }
+
+    /// A frame if there is one, and the line that the original logs of its first three.
+    pub fn feed(&mut self, soft: &[i8]) -> (Option<Vec<u8>>, Option<Logged>) {
+        let (frame, events) = recorded(|| self.handler.feed_symbol(soft));
+        (frame, logged(&events, "MSC Viterbi metric").pop())
+    }
+
+    pub fn reset(&mut self) {
+        self.handler.reset();
+    }
+
+    pub fn frames_decoded(&self) -> u64 {
+        self.handler.frames_decoded as u64
     }
 }

@@ -2,7 +2,7 @@
 //! byte test of the packed bits. Outside it ours says no, and the Rust's yes is a listed difference.
 
 use super::Run;
-use crate::model::fib::{bit_test, bits_of, with_crc};
+use crate::model::fib::{bit_test, bits_of, packed, with_crc};
 use crate::tally::{Outcome, Tally, same};
 use crate::{ours, theirs};
 
@@ -121,9 +121,4 @@ fn beside(bits: &[u8], behind: &[u8], tally: &mut Tally) -> Outcome {
     same(["the model", "the Rust"], Some(bit_test(bits)), rust, input)?;
     same(["the Rust's byte test", "ours"], Ok(theirs::fib_crc_valid(&packed(bits))), ours, input)?;
     tally.rust(rust.ok_or("a panic"), ours, input)
-}
-
-/// High bit first.
-fn packed(bits: &[u8]) -> Vec<u8> {
-    bits.chunks(8).map(|eight| eight.iter().fold(0, |byte, bit| byte << 1 | bit)).collect()
 }

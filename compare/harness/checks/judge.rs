@@ -113,7 +113,7 @@ fn places(random: &mut Random, tally: &mut Tally) -> Outcome {
 }
 
 /// Fields that are nearly right.
-fn likely(random: &mut Random) -> Description {
+pub fn likely(random: &mut Random) -> Description {
     let (level, rate) = (random.below(6) as u8, random.below(300) as u16 * 8);
     let d = if random.one_in(3) {
         let row = random.pick(&UEP_PROFILES);

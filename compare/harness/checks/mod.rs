@@ -1,20 +1,31 @@
 //! The comparisons, one module for each function or pair of them, and the one list of them.
 
+mod agreement;
 mod check_crc_bits;
 mod decoders;
 mod depuncture;
 mod energy_dispersal;
+mod example;
+mod feed_symbol;
 mod fib_crc_valid;
 mod judge;
 mod lookups;
+pub mod process_fic;
+pub mod receivers;
+mod recordings;
+mod reset;
+mod set_up;
 
 use crate::random::Random;
 use crate::tally::{Outcome, Tally};
+use std::path::PathBuf;
 
 /// How this run goes.
 pub struct Run {
     pub quick: bool,
     pub seed: u64,
+    /// Where soft values made by another transmitter are at hand.
+    pub recordings: Option<PathBuf>,
 }
 
 impl Run {
@@ -59,4 +70,18 @@ pub const CHECKS: &[Check] = &[
     Check { name: "viterbi_decode_state0", least: 50_000, compare: decoders::state0 },
     #[cfg(with = "viterbi_decode_with_metric")]
     Check { name: "viterbi_decode_with_metric", least: 50_000, compare: decoders::with_metric },
+    #[cfg(with = "process_fic")]
+    Check { name: "process_fic", least: 5_000, compare: process_fic::compare },
+    #[cfg(with = "set_up")]
+    Check { name: "set_up", least: 20_000, compare: set_up::compare },
+    #[cfg(all(with = "set_up", with = "reset", with = "feed_symbol"))]
+    Check { name: "reset", least: 10_000, compare: reset::compare },
+    #[cfg(all(with = "set_up", with = "reset", with = "feed_symbol"))]
+    Check { name: "feed_symbol", least: 100_000, compare: feed_symbol::compare },
+    #[cfg(all(with = "set_up", with = "reset", with = "feed_symbol"))]
+    Check { name: "agreement", least: 500, compare: agreement::compare },
+    #[cfg(all(with = "process_fic", with = "set_up", with = "reset", with = "feed_symbol"))]
+    Check { name: "recordings", least: 0, compare: recordings::compare },
+    #[cfg(all(with = "set_up", with = "reset", with = "feed_symbol"))]
+    Check { name: "example", least: 8, compare: example::compare },
 ];

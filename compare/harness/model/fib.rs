@@ -15,6 +15,11 @@ pub fn bits_of(bytes: &[u8]) -> Vec<u8> {
     bytes.iter().flat_map(|b| (0..8).map(move |i| b >> (7 - i) & 1)).collect()
 }
 
+/// Bytes of bits, high bit first.
+pub fn packed(bits: &[u8]) -> Vec<u8> {
+    bits.chunks(8).map(|eight| eight.iter().fold(0, |byte, bit| byte << 1 | bit)).collect()
+}
+
 /// Data with its CRC behind it.
 pub fn with_crc(data: &[u8]) -> Vec<u8> {
     let word = crc_word(bits_of(data).into_iter().map(|b| b == 1));

@@ -5,6 +5,7 @@ pub mod CleanWord
 pub mod Crc
 pub mod Dispersal
 pub mod Eep
+pub mod Interleaving
 pub mod MotherCode
 pub mod Puncturing
 pub mod Trellis

@@ -4,6 +4,7 @@ pub mod Clean
 pub mod Crc
 pub mod Dispersal
 pub mod Eep
+pub mod Interleaving
 pub mod MotherCode
 pub mod Puncturing
 pub mod Trellis

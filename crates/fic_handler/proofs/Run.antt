@@ -66,12 +66,12 @@ with-other : (k : ℕ → Block) (n : ℕ) (x : Block) (i : ℕ) → i < n → k
 unfolding with-block
 with-other k n x i h = ap (λ (b : Bool). within b x (k i)) (sym (ne-eqb i n (λ e. omega arith)))
 
-total-ext : (k l : ℕ → Block) (n : ℕ) → ((i : ℕ) → i < n → k i ≡ l i) → total k n ≡ total l n
+pub total-ext : (k l : ℕ → Block) (n : ℕ) → ((i : ℕ) → i < n → k i ≡ l i) → total k n ≡ total l n
 unfolding total
 total-ext k l zero h = refl
 total-ext k l (suc n) h = ap₂ (λ (a : ℕ) (b : Block). a + countOf (dataBits (b .decoded)) 3) (total-ext k l n (λ i g. h i (omega arith))) (h n (omega arith))
 
-written-ext : (k l : ℕ → Block) (n : ℕ) → ((i : ℕ) → i < n → k i ≡ l i) → written k n ≡ written l n
+pub written-ext : (k l : ℕ → Block) (n : ℕ) → ((i : ℕ) → i < n → k i ≡ l i) → written k n ≡ written l n
 unfolding written
 written-ext k l zero h = refl
 written-ext k l (suc n) h = ap₂ (λ (a : List ℕ) (b : Block). a ++ passed (dataBits (b .decoded)) 3) (written-ext k l n (λ i g. h i (omega arith))) (h n (omega arith))

@@ -1,9 +1,14 @@
 // Replays recorded answers of the Rust from standard input and counts, function by function, which answers are the same.
 // A record: a kind, then the input and the Rust's answer, each as a length of two bytes, the low one first, and its bytes.
-ghost use Prim.Native.Nat.{_+_, _≤_};
+// Soft values are two's-complement bytes; compare/README.md has the kinds.
+ghost use Prim.Native.Nat.{_+_, _≤_, _<_};
 ghost use lib.ListN.{length};
 use libc::STDIN_FILENO;
 use libc::STDOUT_FILENO;
+
+mod decoders;
+mod descriptions;
+mod values;
 
 fn least(a: usize, b: usize) -> usize
     ensures { λ r. ⌜ (r ≤ a) × (r ≤ b) ⌝ }
@@ -15,6 +20,14 @@ fn wide(x: u8) -> usize
     ensures { λ r. ⌜ r ≤ 255 ⌝ }
 {
     x as usize
+}
+
+// A number of four bytes, the low one first.
+fn word(four: &[u8]) -> usize
+    requires { ⌜ 4 ≤ length (now four) ⌝ }
+    ensures { λ r. ⌜ r < 4294967296 ⌝ }
+{
+    wide(four[0]) + 256 * wide(four[1]) + 65536 * wide(four[2]) + 16777216 * wide(four[3])
 }
 
 // A length of two bytes; 0 where the input has ended.
@@ -61,6 +74,18 @@ fn is_same(kind: usize, input: &mut [u8], answer: &[u8]) -> bool {
         }
         2 => is_byte(answer, crc::fib_crc_valid(&*input)),
         3 => is_byte(answer, crc::check_crc_bits(&*input)),
+        _ => is_same_by_values(kind, &*input, answer),
+    }
+}
+
+fn is_same_by_values(kind: usize, input: &[u8], answer: &[u8]) -> bool {
+    match kind {
+        4 => descriptions::is_judged(input, answer),
+        5 => descriptions::has_sizes(input, answer),
+        6 => descriptions::depunctures(input, answer),
+        7 => values::depunctures_fic(input, answer),
+        8 => decoders::decodes(false, input, answer),
+        9 => decoders::decodes(true, input, answer),
         _ => false,
     }
 }
@@ -119,4 +144,10 @@ fn main() {
     tell(b"energy_dispersal", same[1], other[1]);
     tell(b"fib_crc_valid", same[2], other[2]);
     tell(b"check_crc_bits", same[3], other[3]);
+    tell(b"judge", same[4], other[4]);
+    tell(b"needed_size and depunctured_size", same[5], other[5]);
+    tell(b"depuncture_msc", same[6], other[6]);
+    tell(b"depuncture_fic", same[7], other[7]);
+    tell(b"viterbi_decode_state0", same[8], other[8]);
+    tell(b"viterbi_decode_with_metric", same[9], other[9]);
 }

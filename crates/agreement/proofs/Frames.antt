@@ -1,0 +1,73 @@
+-- Values that agree with what was sent of a frame: decoded, dispersed and packed they are the frame.
+-- Assumes nothing.
+use mathlib.Core.Path.{_≡_, sym, ap, _∙_, subst}
+use mathlib.Core.List.{List, _++_}
+use Prim.Native.Nat.{ℕ, _+_, _*_, _<_}
+use native.Mathlib.Omega.{arith}
+use lib.ListN.{length, getD, take, drop}
+use lib.Seq.{take-at}
+use lib.IntN.{ℤ}
+use lib.Ieee.{Float}
+use Rattle.laws.specs.Bits.{AreBits, AreBytes}
+use Rattle.laws.specs.Integers.{at}
+use Rattle.en300401.specs.Bytes.{bitsOfBytes, bytesOfBits}
+use Rattle.en300401.specs.Clean.{Agrees}
+use Rattle.en300401.specs.Dispersal.{disperse}
+use Rattle.en300401.specs.MotherCode.{codeWord}
+use Rattle.en300401.specs.Puncturing.{mask, keptSize, depuncture}
+use Rattle.en300401.specs.Trellis.{Ends, Best}
+use Rattle.en300401.proofs.Bytes.{bits-length}
+use Rattle.en300401.proofs.CleanWord.{CleanWord, sixZeros, clean-bits, sent-clean, length-word}
+use Rattle.en300401.proofs.Dispersal.{disperse-length, disperse-bits, disperse-twice}
+use Rattle.en300401.proofs.Puncturing.{length-puncture}
+use Rattle.packing.specs.Bytes.{bytesOf}
+use Rattle.packing.proofs.Bits.{as-bits}
+use Rattle.protection.specs.declared.Description.{Description}
+use Rattle.protection.specs.Refusals.{profileOf, Accepted}
+use Rattle.protection.proofs.Profiles.{accepted-length}
+use Rattle.viterbi.specs.Result.{Decodes}
+use Rattle.msc_handler.specs.Frames.{stepsOf, frameBits, Framed}
+use Rattle.agreement.specs.Sender.{message, sent}
+use Rattle.agreement.proofs.Bytes.{bits-of-bytes, bytes-back}
+use Rattle.agreement.proofs.Rates.{rate-fits}
+
+module _ (d : Description) (ok : Accepted d) (frame : List ℕ) (size : length frame ≡ 3 * d .bitrate) where
+  message-long : length (message frame) ≡ 24 * d .bitrate
+  unfolding message
+  message-long = simp disperse-length (bits-length frame ∙ omega arith)
+
+  message-bits : AreBits (message frame)
+  unfolding message
+  message-bits = search (disperse-bits, bits-of-bytes)
+
+  mask-long : length (mask (profileOf d)) ≡ 4 * (length (message frame) + 6)
+  mask-long = accepted-length d (rate-fits d ok) ok ∙ omega (arith, message-long)
+
+  -- as many bits as the profile keeps
+  pub sent-long : length (sent d frame) ≡ keptSize (profileOf d)
+  unfolding sent keptSize
+  sent-long = length-puncture (mask (profileOf d)) (codeWord (message frame)) (mask-long ∙ sym (length-word (message frame)))
+
+  module _ (vs : List ℤ) (agree : (i : ℕ) → i < keptSize (profileOf d) → Agrees (at vs i) (getD (sent d frame) i 0)) where
+    values-clean : CleanWord (message frame) (mask (profileOf d)) vs
+    unfolding sent
+    values-clean = sent-clean (profileOf d) message-bits mask-long (λ i l. agree i (subst (λ (n : ℕ). i < n) sent-long l))
+
+    -- the message, and then the tail
+    decoded-is : {ends : Ends} {decoded : List ℕ} {metric : ℤ} → Decodes ends (depuncture (mask (profileOf d)) vs) (stepsOf (d .bitrate)) decoded metric → take (24 * d .bitrate) decoded ≡ message frame
+    decoded-is {ends} x =
+        let soft : List ℤ = depuncture (mask (profileOf d)) vs in
+        let best : Best soft (length (message frame) + 6) ends (x .start) (x .path) = subst (λ (n : ℕ). Best soft (n + 6) ends (x .start) (x .path)) (sym message-long) (x .best) in
+        ap (take (24 * d .bitrate)) (x .bits-are ∙ clean-bits values-clean best) ∙ take-at (message frame) sixZeros (24 * d .bitrate) message-long
+
+    -- dispersed once more, and packed
+    packed-back : AreBytes frame → bytesOf (disperse (message frame)) ≡ frame
+    unfolding message bytesOf
+    packed-back h = ap bytesOf (disperse-twice (bitsOfBytes frame)) ∙ ap bytesOfBits (as-bits (bitsOfBytes frame) (bits-of-bytes frame)) ∙ bytes-back frame h
+
+    pub frame-back : AreBytes frame → {ends : Ends} {words bits old : List ℕ} {percent : Float} {words' bits' frame' : List ℕ}
+        → Framed ends (d .bitrate) (depuncture (mask (profileOf d)) vs) words bits old percent words' bits' frame' → take (3 * d .bitrate) frame' ≡ frame
+    frame-back h {old = old} f =
+        let is : bytesOf (frameBits (d .bitrate) (f .decoded)) ≡ frame = ap (λ (m : List ℕ). bytesOf (disperse m)) (decoded-is (f .decodes)) ∙ packed-back h in
+        ap (take (3 * d .bitrate)) (f .frame-is ∙ ap (λ (r : List ℕ). r ++ drop (3 * d .bitrate) old) is)
+        ∙ take-at frame (drop (3 * d .bitrate) old) (3 * d .bitrate) size

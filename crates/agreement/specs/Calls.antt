@@ -1,0 +1,101 @@
+-- Document 01, "Sender's model" and "What the receiver owes": what has come in, over calls of set-up, reset and feed on one state and its stores.
+use mathlib.Core.Path.{_≡_}
+use mathlib.Core.List.{List, [], _∷_, _++_}
+use Prim.Native.Nat.{ℕ, _+_, _*_, _/_, _%_, _<_}
+use lib.ListN.{length, getD, take}
+use lib.IntN.{ℤ}
+use lib.Ieee.{Float}
+use Rattle.laws.specs.Integers.{at}
+use Rattle.en300401.specs.Clean.{Agrees}
+use Rattle.en300401.specs.Interleaving.{delay, symbolBits}
+use Rattle.en300401.specs.Puncturing.{keptSize}
+use Rattle.protection.specs.declared.Description.{Description}
+use Rattle.protection.specs.Answers.{judgedAs}
+use Rattle.protection.specs.Refusals.{profileOf}
+use Rattle.refusal.specs.Outcome.{gives, refuses}
+use Rattle.msc_handler.specs.declared.Fed.{Fed}
+use Rattle.msc_handler.specs.declared.SetUp.{SetUp}
+use Rattle.msc_handler.specs.declared.State.{State}
+use Rattle.msc_handler.specs.History.{symbolOf}
+use Rattle.msc_handler.specs.Promises.{Said, framed, Buffers, Turn, refuses as turns-away, gathers, completes, turnOf, SetUpPromise, ResetPromise, FeedPromise}
+use Rattle.agreement.specs.Sender.{Sender, placeOf, cifBit}
+
+-- a CIF as it came in: its symbols in order, of each the 3,072 values that are taken
+abbrev pub Cif : Type 0
+Cif = List (List ℤ)
+
+-- value p of a CIF
+unfoldable pub valueAt : Cif → ℕ → ℤ
+valueAt cif p = at (getD cif (p / symbolBits) []) (p % symbolBits)
+
+-- what a caller holds between calls and hands on untouched
+pub record Held : Type 0 where
+  pub state : State
+  pub cif : List ℤ
+  pub ring : List ℤ
+
+abbrev pub held : State → List ℤ → List ℤ → Held
+held s c r = record { state = s; cif = c; ring = r }
+
+-- what has come in since the last accepted set-up or reset: the whole CIFs, the oldest first, and the symbols of the one begun
+pub record Came : Type 0 where
+  pub cifs : List Cif
+  pub begun : Cif
+
+abbrev pub came : List Cif → Cif → Came
+came cs b = record { cifs = cs; begun = b }
+
+-- what has come in after one more call: nothing more if it was refused; else its symbol, which may make a CIF whole
+abbrev pub after : Turn → List ℤ → Came → Came
+after (turns-away n) soft c = c
+after gathers soft c = came (c .cifs) (c .begun ++ (symbolOf soft ∷ []))
+after completes soft c = came (c .cifs ++ ((c .begun ++ (symbolOf soft ∷ [])) ∷ [])) []
+
+-- a feed call: any symbol; the state and the stores as they were held; the five work buffers of any length and content
+pub record FeedCall (h : Held) (soft : List ℤ) (b : Buffers) (r : Fed) (b' : Buffers) : Type 0 where
+  pub cif-kept : b .cif ≡ h .cif
+  pub ring-kept : b .ring ≡ h .ring
+  pub promise : FeedPromise (h .state) soft b r b'
+
+-- the calls since a description was set up, or any state that has it was reset: any number, in any order; after a refused one the caller goes on with what it held
+pub data History (d : Description) : Held → Came → Type 0 where
+  set-up : (cif ring : List ℤ) (r : SetUp) (ring' : List ℤ) → SetUpPromise d ring r ring' → judgedAs (r .answer) ≡ gives tt → History d (held (r .state) cif ring') (came [] [])
+  reset : (s : State) (cif ring : List ℤ) (r : SetUp) (ring' : List ℤ) → s .channel .description ≡ d → ResetPromise s ring r ring' → judgedAs (r .answer) ≡ gives tt → History d (held (r .state) cif ring') (came [] [])
+  set-up-refused : {h : Held} {c : Came} (n : ℕ) (d' : Description) (r : SetUp) (ring' : List ℤ) → History d h c → SetUpPromise d' (h .ring) r ring' → judgedAs (r .answer) ≡ refuses n → History d (held (h .state) (h .cif) ring') c
+  reset-refused : {h : Held} {c : Came} (n : ℕ) (r : SetUp) (ring' : List ℤ) → History d h c → ResetPromise (h .state) (h .ring) r ring' → judgedAs (r .answer) ≡ refuses n → History d (held (r .state) (h .cif) ring') c
+  fed : {h : Held} {c : Came} (soft : List ℤ) (b : Buffers) (r : Fed) (b' : Buffers) → History d h c → FeedCall h soft b r b' → History d (held (r .state) (b' .cif) (b' .ring)) (after (turnOf (h .state) soft b) soft c)
+
+-- the sub-channel's kept values, those that stand for a bit of a code word: its first ones; padding may follow
+abbrev pub keptOf : Description → ℕ
+keptOf d = keptSize (profileOf d)
+
+-- value i of the sub-channel in a CIF that came in is not 0 and of the sign of the bit that the sender's CIF r has at that place
+abbrev pub AgreesAt : (d : Description) → Sender d → ℕ → Cif → ℕ → Type 0
+AgreesAt d s r cif i = Agrees (valueAt cif (placeOf d i)) (cifBit d s r (placeOf d i))
+
+-- CIF r of the sender has come in whole, as this CIF of the receiver's: each kept value agrees
+abbrev pub CameIn : (d : Description) → Sender d → ℕ → Cif → Type 0
+CameIn d s r cif = (i : ℕ) → i < keptOf d → AgreesAt d s r cif i
+
+-- the last sixteen CIFs that came in, with no other between
+pub record LastSixteen (cifs : List Cif) : Type 0 where
+  pub earlier : List Cif
+  pub last : List Cif
+  pub split : cifs ≡ earlier ++ last
+  pub sixteen : length last ≡ 16
+
+-- they are the sender's CIFs r to r + 15
+pub record WholeSixteen (d : Description) (s : Sender d) (r : ℕ) (cifs : List Cif) : Type 0 where
+  pub run : LastSixteen cifs
+  pub agree : (k : ℕ) → k < 16 → CameIn d s (r + k) (getD (run .last) k [])
+
+-- they are so as far as frame r goes, whose bit i is in CIF r + delay i: no other value is asked to agree
+pub record Sixteen (d : Description) (s : Sender d) (r : ℕ) (cifs : List Cif) : Type 0 where
+  pub run : LastSixteen cifs
+  pub agree : (i : ℕ) → i < keptOf d → AgreesAt d s (r + delay i) (getD (run .last) (delay i) []) i
+
+-- a frame of these bytes is answered, and the frame buffer begins with them
+pub record Yields (d : Description) (frame : List ℕ) (said : Said) (b' : Buffers) : Type 0 where
+  pub percent : Float
+  pub answer : said ≡ framed (3 * d .bitrate) percent
+  pub bytes : take (3 * d .bitrate) (b' .frame) ≡ frame

@@ -1,0 +1,5 @@
+pub mod Answers
+pub mod FicCalls
+pub mod FicUnique
+pub mod Lookups
+pub mod Unique

@@ -1,0 +1,13 @@
+-- `feltcomet::described` meets its contract: field by field, and the flag is the test against 0.
+-- Assumes nothing.
+use mathlib.Core.Path.{refl}
+use Rattle.feltcomet.specs.Calls.{describes}
+use Rattle.feltcomet.proofs.described.Statement.{statement}
+use Rattle.feltcomet.proofs.described.Tie as tie
+
+returns : tie.Need-returns
+unfolding describes
+returns c = refl
+
+pub described-spec : {M : Type 1} → statement M
+described-spec = tie.close (tie.spec returns)

@@ -1,0 +1,37 @@
+-- Document 01, "viterbi.rs" and its table of refusals: what a decoder returns and writes, the metric into a place of its own.
+use mathlib.Core.Path.{_≡_}
+use mathlib.Core.List.{List, _∷_}
+use mathlib.Core.Option.{Option, none, some}
+use Prim.Native.Nat.{ℕ, _<_}
+use lib.ListN.{length, drop}
+use lib.IntN.{ℤ}
+use Rattle.en300401.specs.Trellis.{Ends}
+use Rattle.refusal.specs.Outcome.{orElse}
+use Rattle.viterbi.specs.Decoders.{steps, refusal, done, Decoded}
+use Rattle.feltcomet.specs.Calls.{short}
+
+-- a refusal's number, 0 for none
+abbrev pub numberOf : Option ℕ → ℕ
+numberOf none = 0
+numberOf (some n) = n
+
+-- 11, then 8: the words or the bits have fewer places than steps, or there is no place for the metric
+unfoldable pub decoderNumber : ℕ → ℕ → ℕ → ℕ → ℕ
+decoderNumber n words bits metrics = orElse (numberOf (refusal n words bits)) (short 1 metrics)
+
+-- refused: nothing changed
+pub record Untouched (words bits : List ℕ) (metrics : List ℤ) (words' bits' : List ℕ) (metrics' : List ℤ) : Type 0 where
+  pub words-are : words' ≡ words
+  pub bits-are : bits' ≡ bits
+  pub metrics-are : metrics' ≡ metrics
+
+-- done: decoded as the decoder promises, and its metric stands in the first place
+pub record Written (ends : Ends) (xs : List ℤ) (words bits : List ℕ) (metrics : List ℤ) (words' bits' : List ℕ) (metrics' : List ℤ) : Type 0 where
+  pub metric : ℤ
+  pub decoded : Decoded ends xs words bits (done metric) words' bits'
+  pub metrics-are : metrics' ≡ metric ∷ drop 1 metrics
+
+pub record Decoder (ends : Ends) (xs : List ℤ) (words bits : List ℕ) (metrics : List ℤ) (number : ℕ) (words' bits' : List ℕ) (metrics' : List ℤ) : Type 0 where
+  pub answer : number ≡ decoderNumber (steps xs) (length words) (length bits) (length metrics)
+  pub refused : 0 < number → Untouched words bits metrics words' bits' metrics'
+  pub finished : number ≡ 0 → Written ends xs words bits metrics words' bits' metrics'

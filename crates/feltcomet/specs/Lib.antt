@@ -1,0 +1,5 @@
+pub mod Calls
+pub mod Code
+pub mod Decoders
+pub mod Depuncturing
+pub mod Fic

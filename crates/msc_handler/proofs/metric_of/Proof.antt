@@ -1,0 +1,30 @@
+-- `msc_handler::metric_of` meets its contract.
+-- Assumes nothing.
+use mathlib.Core.Path.{_≡_, refl, sym, ap, _∙_}
+use mir.Syntax.{w32}
+use mir.Facts.{toZ-ofZ}
+use Rattle.msc_handler.specs.Frames.{metricOf}
+use borrow.Author.Needs.{needs}
+use Rattle.msc_handler.proofs.metric_of.Statement.{statement}
+use Rattle.msc_handler.proofs.metric_of.Tie as tie
+use Rattle.msc_handler.proofs.metric_of.Reads as reads
+use Rattle.msc_handler.proofs.metric_of.Lts as lts
+
+-- src/lib.rt:115:24
+enum-known-decoding : tie.Need-enum-known-decoding
+enum-known-decoding c = search needs
+
+-- src/lib.rt:116:33
+enum-told : tie.Need-enum-told
+enum-told c = search needs
+
+-- src/lib.rt:111:1
+returns : tie.Need-returns
+returns c = toZ-ofZ (search needs) ∙ sym (ap metricOf (c .before .before .decoding .given .1))
+
+-- src/lib.rt:111:1
+returns-2 : tie.Need-returns-2
+returns-2 c = sym (ap metricOf (c .enum-told .given .1))
+
+pub metric-of-spec : {M : Type 1} → statement M
+metric-of-spec = tie.close (tie.spec enum-known-decoding enum-told returns returns-2)

@@ -1,0 +1,102 @@
+-- `msc_handler::process_cif` meets its contract, by whether sixteen CIFs went before.
+-- Assumes nothing.
+use borrow.Author.Needs.{needs}
+use mathlib.Core.Path.{_≡_, refl, sym, ap, _∙_}
+use Prim.Native.Nat.{ℕ, _+_, _*_, _<_, _≤_, min}
+use native.Mathlib.Omega.{arith}
+use lib.ListN.{length}
+use Rattle.msc_handler.specs.Promises.{Buffers, buffers}
+use Rattle.protection.proofs.Profiles.{accepted-place}
+use Rattle.msc_handler.proofs.Feeding.{cif-waits, cif-frames}
+use Rattle.msc_handler.proofs.process_cif.Statement.{statement}
+use Rattle.msc_handler.proofs.process_cif.Tie as tie
+
+abbrev start : tie.After-rotate → tie.Start
+start c = c .before .before .before .before .before .before
+
+-- what is lent
+abbrev given : tie.Start → Buffers
+given s = buffers (s .args .cif .now) (s .args .ring .now) (s .args .deinterleaved .now) (s .args .depunctured .now) (s .args .words .now) (s .args .bits .now) (s .args .frame .now)
+
+rotate-requires : tie.Need-rotate-requires
+rotate-requires c κs =
+    let s = c .before .before .before .before .before in
+    record { index = s .pre .index; inside = accepted-place _ (s .pre .none); cif-long = s .pre .cif-long; ring-long = s .pre .ring-long; read-long = s .pre .read-long }
+
+counted-requires : tie.Need-counted-requires
+counted-requires c κs = search needs
+
+same-length : tie.Need-same-length
+same-length c = c .before .before .before .before .rotate .kept .1 .1 .0
+
+same-length-2 : tie.Need-same-length-2
+same-length-2 c = c .before .before .before .before .rotate .kept .1 .1 .1 .0
+
+returns : tie.Need-returns
+returns c =
+    let r = c .before .before .before .before in
+    cif-waits (start r .args .channel) (given (start r)) (r .rotate .ensures .0) (r .rotate .ensures .1) (omega (arith, c .before .counted .ensures, c .if1 .taken))
+
+decode-frame-requires : tie.Need-decode-frame-requires
+decode-frame-requires c κs =
+    let r = c .before .before .before .before .before .before .before .before .before .before in
+    let s = start r in
+    record {
+      none = s .pre .none;
+      read-long = omega (arith, s .pre .read-long, r .rotate .kept .1 .1 .1 .0);
+      soft-long = s .pre .soft-long;
+      words-long = s .pre .words-long;
+      bits-long = s .pre .bits-long;
+      frame-long = s .pre .frame-long;
+    }
+
+cast-t28 : tie.Need-cast-t28
+cast-t28 c = search needs
+
+mul-t29 : tie.Need-mul-t29
+mul-t29 c = search needs
+
+same-length-3 : tie.Need-same-length-3
+same-length-3 c = c .before .before .before .before .before .before .before .before .before .before .before .before .before .before .before .before .before .before .before .rotate .kept .1 .1 .0
+
+same-length-4 : tie.Need-same-length-4
+same-length-4 c = c .before .before .before .before .before .before .before .before .before .before .before .before .before .before .before .before .before .before .before .rotate .kept .1 .1 .1 .0
+
+same-length-5 : tie.Need-same-length-5
+same-length-5 c = c .before .before .before .before .before .before .before .before .decode-frame .kept .1 .1 .0
+
+same-length-6 : tie.Need-same-length-6
+same-length-6 c = c .before .before .before .before .before .before .before .before .decode-frame .kept .1 .1 .1 .0
+
+same-length-7 : tie.Need-same-length-7
+same-length-7 c = c .before .before .before .before .before .before .before .before .decode-frame .kept .1 .1 .1 .1 .0
+
+same-length-8 : tie.Need-same-length-8
+same-length-8 c = c .before .before .before .before .before .before .before .before .decode-frame .kept .1 .1 .1 .1 .1 .0
+
+returns-2 : tie.Need-returns-2
+returns-2 c =
+    let d = c .before .before .before .before .before .before .before .before in
+    let e = d .before .before .before .before .before .before .before in
+    let r = e .before .before .before .before in
+    cif-frames (start r .args .channel) (given (start r)) (r .rotate .ensures .0) (r .rotate .ensures .1) (omega (arith, e .before .counted .ensures, e .if1 .left)) (d .decode-frame .ensures .0) (d .decode-frame .ensures .1)
+
+pub process-cif-spec : {M : Type 1} → statement M
+process-cif-spec =
+    tie.close
+    (tie.spec
+    rotate-requires
+    counted-requires
+    same-length
+    same-length-2
+    returns
+    decode-frame-requires
+    cast-t28
+    mul-t29
+    same-length-3
+    same-length-4
+    same-length-5
+    same-length-6
+    same-length-7
+    same-length-8
+    returns-2)

@@ -1,0 +1,6 @@
+pub mod Frames
+pub mod History
+pub mod Promises
+pub mod Ring
+pub mod Rooms
+pub mod States

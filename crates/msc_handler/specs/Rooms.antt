@@ -1,0 +1,42 @@
+-- What the private functions of the crate ask: descriptions without refusal, and the rooms that document 01 names.
+use mathlib.Core.Path.{_≡_}
+use mathlib.Core.List.{List}
+use Prim.Native.Nat.{ℕ, _+_, _<_, _≤_}
+use lib.ListN.{length}
+use lib.IntN.{ℤ}
+use Rattle.en300401.specs.Interleaving.{cifBits}
+use Rattle.protection.specs.declared.Description.{Description}
+use Rattle.protection.specs.Refusals.{refusalOf, roomOf}
+use Rattle.msc_handler.specs.declared.Channel.{Channel}
+use Rattle.msc_handler.specs.Frames.{stepsOf}
+use Rattle.msc_handler.specs.Promises.{Buffers}
+use Rattle.msc_handler.specs.States.{valuesOf, ringRoom, frameRoom}
+
+-- a CIF, a ring and a place for what is read
+pub record RingLent (c : Channel) (cif ring deinterleaved : List ℤ) : Type 0 where
+  pub index : c .«ring_index» < 16
+  pub inside : c .description .«start_addr» + c .description .«sub_size» ≤ 864
+  pub cif-long : cifBits ≤ length cif
+  pub ring-long : ringRoom (c .description) ≤ length ring
+  pub read-long : valuesOf (c .description) ≤ length deinterleaved
+
+-- an accepted description, and all that is lent
+pub record CifLent (c : Channel) (b : Buffers) : Type 0 where
+  pub index : c .«ring_index» < 16
+  pub none : refusalOf (c .description) ≡ 0
+  pub cif-long : cifBits ≤ length (b .cif)
+  pub ring-long : ringRoom (c .description) ≤ length (b .ring)
+  pub read-long : valuesOf (c .description) ≤ length (b .deinterleaved)
+  pub soft-long : roomOf (c .description) ≤ length (b .depunctured)
+  pub words-long : stepsOf (c .description .bitrate) ≤ length (b .words)
+  pub bits-long : stepsOf (c .description .bitrate) ≤ length (b .bits)
+  pub frame-long : frameRoom (c .description) ≤ length (b .frame)
+
+-- what was read, and places for the rest
+pub record FrameLent (d : Description) (deinterleaved depunctured : List ℤ) (words bits frame : List ℕ) : Type 0 where
+  pub none : refusalOf d ≡ 0
+  pub read-long : valuesOf d ≤ length deinterleaved
+  pub soft-long : roomOf d ≤ length depunctured
+  pub words-long : stepsOf (d .bitrate) ≤ length words
+  pub bits-long : stepsOf (d .bitrate) ≤ length bits
+  pub frame-long : frameRoom d ≤ length frame
