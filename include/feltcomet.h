@@ -82,16 +82,76 @@ uint8_t feltcomet_viterbi_decode_state0(const int8_t *soft, size_t soft_length, 
 uint8_t feltcomet_viterbi_decode_with_metric(const int8_t *soft, size_t soft_length, uint64_t *words, size_t words_length, uint8_t *bits,
                                              size_t bits_length, int32_t *metric, size_t metric_length);
 
-/* FIC handling: three symbols of up to 3,072 soft values each, joined in order and cut into blocks of 2,304 (the rest is dropped), to FIBs whose
- * CRC is good. Refusals: 11 where a symbol is longer; then 8 where depunctured has under 3,096 places, words or bits under 774 (even with no
- * whole block), fibs under 96 for each whole block, counts under 5, metrics under 8 or percents under 4.
- * Done (0): the passed FIBs stand at the start of fibs, 32 bytes each; counts[0] says how many, counts[1] to counts[4] how many of each of
- * the four blocks; metrics[b] is block b's metric, metrics[4 + b] the sum of its absolute values, percents[b] the first divided by the second,
- * times 100, which can be negative; all zero for a block that is not there. What the work buffers hold is in docs/BUFFERS.md. */
+/* The FIC: three symbols of up to 3,072 soft values, joined in order and cut into blocks of 2,304, the rest dropped. Each block is
+ * depunctured, decoded, dispersed afresh and cut into three FIBs; those with a good CRC are written into fibs one after another, 32 bytes
+ * each. counts[0] gets how many in all and counts[1] to counts[4] how many of each of four blocks; metrics[0] to metrics[3] the metric and
+ * metrics[4] to metrics[7] the sum of absolute depunctured values of each; percents[0] to percents[3] metric / sum x 100; all 0 for a block
+ * that is not there. Room, even with no whole block: 3,096 depunctured, 774 words and 774 bits; 96 fibs for each whole block; 5 counts,
+ * 8 metrics, 4 percents. Refusal 11, then 8. */
 uint8_t feltcomet_process_fic(const int8_t *first, size_t first_length, const int8_t *second, size_t second_length, const int8_t *third,
                               size_t third_length, int8_t *depunctured, size_t depunctured_length, uint64_t *words, size_t words_length,
                               uint8_t *bits, size_t bits_length, uint8_t *fibs, size_t fibs_length, uint64_t *counts, size_t counts_length,
                               int32_t *metrics, size_t metrics_length, double *percents, size_t percents_length);
+
+/* A receiver's state is eleven numbers that the caller keeps and hands on untouched:
+ *    state[0] symbols of the CIF being gathered, 0 to 17     state[5] start_addr
+ *    state[1] CIF in frame, 0 to 3                           state[6] sub_size
+ *    state[2] ring index, 0 to 15                            state[7] bitrate
+ *    state[3] CIF count, held at 17                          state[8] protection_level
+ *    state[4] frames decoded, held at the largest number     state[9] eep_option
+ *                                                            state[10] is_eep: written as 0 or 1, read as yes where it is not 0
+ * Places beyond these are never touched. A number above 65,535 in state[5] to state[7], or above 255 in another but state[4] and state[10],
+ * is refusal 10, as a bad state is. */
+
+/* A new state for a description, and the ring's need, 1,024 x sub_size values, filled with zeros. Refusals 1 to 7, then 8 where the ring is
+ * short or the state has fewer than eleven places. */
+uint8_t feltcomet_set_up(uint16_t start_addr, uint16_t sub_size, uint16_t bitrate, uint8_t protection_level, uint8_t eep_option,
+                         uint32_t is_eep, int8_t *ring, size_t ring_length, uint64_t *state, size_t state_length);
+
+/* The state of a new set-up with the same description, and the ring's need filled with zeros. Refusal 8 where the state has fewer than
+ * eleven places, then 10, then 8 where the ring is short. */
+uint8_t feltcomet_reset(uint64_t *state, size_t state_length, int8_t *ring, size_t ring_length);
+
+/* Takes a symbol: its first 3,072 soft values go into the CIF store, and the eighteenth makes a CIF. A whole CIF goes through the ring, and
+ * from the seventeenth since set-up or reset on it gives a frame. The state is written anew. length[0] gets 0 while no frame is given, and
+ * else the frame's bytes, 3 x bitrate; then percent[0] gets its percentage, and else it is not touched. The CIF store and the ring are handed
+ * on untouched from call to call; the other buffers hold nothing between calls.
+ * Room at every call: cif 55,296; ring 1,024 x sub_size; deinterleaved 64 x sub_size; depunctured 96 x bitrate + 24; words and bits
+ * 24 x bitrate + 6 each; frame 3 x bitrate. Refusal 8 where the state has fewer than eleven places, or length or percent none; then 10, 8, 9. */
+uint8_t feltcomet_feed_symbol(uint64_t *state, size_t state_length, const int8_t *soft, size_t soft_length, int8_t *cif, size_t cif_length,
+                              int8_t *ring, size_t ring_length, int8_t *deinterleaved, size_t deinterleaved_length, int8_t *depunctured,
+                              size_t depunctured_length, uint64_t *words, size_t words_length, uint8_t *bits, size_t bits_length,
+                              uint8_t *frame, size_t frame_length, uint64_t *length, size_t length_length, double *percent,
+                              size_t percent_length);
+
+/* A receiver, whole. The sub-channel here is 4 units at 0, 8 kbit/s, EEP 4-A; next_symbol and play are the caller's. The other entries are
+ * called in the same way; examples/feltcomet_example.c is a program of this shape.
+ *
+ *     #include "feltcomet.h"
+ *
+ *     enum { SIZE = 4, RATE = 8, STEPS = 24 * RATE + 6 };
+ *
+ *     static uint64_t state[11], words[STEPS], length[1];
+ *     static int8_t cif[55296], ring[1024 * SIZE], deinterleaved[64 * SIZE], depunctured[96 * RATE + 24];
+ *     static uint8_t bits[STEPS], frame[3 * RATE];
+ *     static double percent[1];
+ *
+ *     bool next_symbol(int8_t *soft); // 3,072 values of the MSC, or false where there are no more
+ *     void play(const uint8_t *bytes, uint64_t count, double quality);
+ *
+ *     uint8_t receive(void) {
+ *         static int8_t soft[3072];
+ *         uint8_t refusal = feltcomet_set_up(0, SIZE, RATE, 3, 0, 1, ring, sizeof ring, state, 11);
+ *         while (refusal == 0 && next_symbol(soft)) {
+ *             refusal = feltcomet_feed_symbol(state, 11, soft, 3072, cif, sizeof cif, ring, sizeof ring, deinterleaved,
+ *                                             sizeof deinterleaved, depunctured, sizeof depunctured, words, STEPS, bits, STEPS, frame,
+ *                                             sizeof frame, length, 1, percent, 1);
+ *             if (refusal == 0 && length[0] > 0)
+ *                 play(frame, length[0], percent[0]);
+ *         }
+ *         return refusal; // 0, or what the list above says
+ *     }
+ */
 
 #ifdef __cplusplus
 }

@@ -16,8 +16,8 @@ use Rattle.en300401.specs.Dispersal.{disperse}
 use Rattle.en300401.specs.MotherCode.{codeWord}
 use Rattle.en300401.specs.Puncturing.{mask, keptSize, depuncture}
 use Rattle.en300401.specs.Trellis.{Ends, Best}
-use Rattle.en300401.proofs.Bytes.{bits-length}
-use Rattle.en300401.proofs.CleanWord.{CleanWord, sixZeros, clean-bits, sent-clean, length-word}
+use Rattle.en300401.proofs.Bytes.{bits-length, bits-of-bytes, bytes-back}
+use Rattle.en300401.proofs.CleanWord.{length-word}
 use Rattle.en300401.proofs.Dispersal.{disperse-length, disperse-bits, disperse-twice}
 use Rattle.en300401.proofs.Puncturing.{length-puncture}
 use Rattle.packing.specs.Bytes.{bytesOf}
@@ -26,9 +26,9 @@ use Rattle.protection.specs.declared.Description.{Description}
 use Rattle.protection.specs.Refusals.{profileOf, Accepted}
 use Rattle.protection.proofs.Profiles.{accepted-length}
 use Rattle.viterbi.specs.Result.{Decodes}
+use Rattle.viterbi.proofs.Clean.{clean-decoded}
 use Rattle.msc_handler.specs.Frames.{stepsOf, frameBits, Framed}
 use Rattle.agreement.specs.Sender.{message, sent}
-use Rattle.agreement.proofs.Bytes.{bits-of-bytes, bytes-back}
 use Rattle.agreement.proofs.Rates.{rate-fits}
 
 module _ (d : Description) (ok : Accepted d) (frame : List ℕ) (size : length frame ≡ 3 * d .bitrate) where
@@ -49,16 +49,12 @@ module _ (d : Description) (ok : Accepted d) (frame : List ℕ) (size : length f
   sent-long = length-puncture (mask (profileOf d)) (codeWord (message frame)) (mask-long ∙ sym (length-word (message frame)))
 
   module _ (vs : List ℤ) (agree : (i : ℕ) → i < keptSize (profileOf d) → Agrees (at vs i) (getD (sent d frame) i 0)) where
-    values-clean : CleanWord (message frame) (mask (profileOf d)) vs
-    unfolding sent
-    values-clean = sent-clean (profileOf d) message-bits mask-long (λ i l. agree i (subst (λ (n : ℕ). i < n) sent-long l))
-
     -- the message, and then the tail
     decoded-is : {ends : Ends} {decoded : List ℕ} {metric : ℤ} → Decodes ends (depuncture (mask (profileOf d)) vs) (stepsOf (d .bitrate)) decoded metric → take (24 * d .bitrate) decoded ≡ message frame
-    decoded-is {ends} x =
-        let soft : List ℤ = depuncture (mask (profileOf d)) vs in
-        let best : Best soft (length (message frame) + 6) ends (x .start) (x .path) = subst (λ (n : ℕ). Best soft (n + 6) ends (x .start) (x .path)) (sym message-long) (x .best) in
-        ap (take (24 * d .bitrate)) (x .bits-are ∙ clean-bits values-clean best) ∙ take-at (message frame) sixZeros (24 * d .bitrate) message-long
+    unfolding sent
+    decoded-is {ends} {decoded} {metric} x =
+        ap (λ (n : ℕ). take n decoded) (sym message-long)
+        ∙ clean-decoded (profileOf d) vs message-bits mask-long (λ i l. agree i (subst (λ (n : ℕ). i < n) sent-long l)) (ap (λ (n : ℕ). n + 6) (sym message-long)) x
 
     -- dispersed once more, and packed
     packed-back : AreBytes frame → bytesOf (disperse (message frame)) ≡ frame

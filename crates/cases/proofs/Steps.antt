@@ -1,20 +1,19 @@
 -- What a decoder must answer to no step and to one step, by one computed test over the 64 survivors.
 -- Assumes nothing.
 use mathlib.Core.Path.{_≡_, refl, sym, ap, _∙_, subst}
-use mathlib.Core.Bool.{Bool, true, false}
-use mathlib.Core.List.{List, [], _∷_, _++_, map, reverse}
-use mathlib.Core.Logic.{_⊎_, inl, inr, ⊎-elim}
-use Prim.Native.Nat.{ℕ, zero, suc, _<_, _≤_}
+use mathlib.Core.Bool.{Bool}
+use mathlib.Core.List.{List, _++_, map, reverse}
+use mathlib.Core.Logic.{⊎-elim}
+use Prim.Native.Nat.{ℕ, _<_, _≤_}
 use native.Mathlib.Omega.{arith}
 use lib.Dec.{T}
 use lib.ListN.{length, drop}
 use lib.IntN.{ℤ, pos, _-ℤ_}
-use lib.Signed.{leZ, _≤ℤ_, _<ℤ_, ≤ℤ-refl}
-use Rattle.laws.specs.Integers.{up, dn}
+use lib.Signed.{leZ, _≤ℤ_, ≤ℤ-refl}
 use Rattle.laws.specs.Lists.{listOf}
 use Rattle.laws.specs.Tables.{every}
 use Rattle.laws.proofs.Integers.{parts-le, lt-parts}
-use Rattle.en300401.specs.Trellis.{bitN, endOf, scoreOf, Wins, Ends, zeroEnd, freeEnd, Permits, Best, Top, Subtracted, none, kept}
+use Rattle.en300401.specs.Trellis.{bitN, scoreOf, Wins, Ends, zeroEnd, freeEnd, Permits, Best, Top, Subtracted, none, kept}
 use Rattle.en300401.proofs.TrellisOrder.{best-unique}
 use Rattle.en300401.proofs.TrellisProgram.{survivor, startInto, bitsInto, into-score, zero-best}
 use Rattle.en300401.proofs.TrellisShort.{under, free-best-by-test}

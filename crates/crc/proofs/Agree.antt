@@ -1,16 +1,16 @@
 -- On 256 zeros and ones the bit test and the byte test of the packed bytes are the same yes or no.
 -- Assumes nothing.
-use mathlib.Core.Path.{_≡_, refl, sym, ap, _∙_, subst}
+use mathlib.Core.Path.{_≡_, refl, sym, ap, _∙_}
 use mathlib.Core.Bool.{Bool, true, false, cond}
 use mathlib.Core.List.{List}
-use Prim.Native.Nat.{ℕ, _≤_}
+use Prim.Native.Nat.{ℕ}
 use native.Mathlib.Omega.{arith}
 use borrow.Author.Tests.{le-leb, eq-eqb, ne-eqb}
 use lib.Dec.{eqb}
 use lib.ListN.{length, take}
 use lib.Seq.{take-all}
 use Rattle.laws.specs.Bits.{AreBits}
-use Rattle.en300401.specs.Bytes.{bitsOfBytes, bytesOfBits}
+use Rattle.en300401.specs.Bytes.{bytesOfBits}
 use Rattle.en300401.specs.Crc.{fibValid, fibBytesValid}
 use Rattle.en300401.proofs.Bytes.{packed, Packed}
 use Rattle.crc.specs.Tests.{byteTest, bitTest, allBits}

@@ -1,23 +1,23 @@
 -- The flag `allBits` and the fact `AreBits`.
 -- Assumes nothing.
-use mathlib.Core.Path.{_≡_, refl, sym, ap, _∙_, subst}
+use mathlib.Core.Path.{_≡_, refl, ap, _∙_}
 use mathlib.Core.Bool.{Bool, true, false, cond}
 use mathlib.Core.List.{List, [], _∷_}
-use Prim.Native.Nat.{ℕ, _<_}
+use Prim.Native.Nat.{ℕ}
 use native.Mathlib.Omega.{arith}
 use borrow.Author.Tests.{ltb-true, lt-ltb}
 use lib.Dec.{ltb}
 use Rattle.laws.specs.Bits.{AreBits}
-use Rattle.laws.proofs.Bits.{bits-nil, bits-cons, bits-head, bits-tail}
+use Rattle.laws.proofs.Bits.{below-nil, below-cons, below-head, below-tail}
 use Rattle.crc.specs.Tests.{allBits}
 
 pub all-are : (xs : List ℕ) → allBits xs ≡ true → AreBits xs
 unfolding allBits
-all-are [] e = bits-nil
+all-are [] e = below-nil
 all-are (x ∷ xs) e = go (ltb x 2) refl e (all-are xs)
   where
     go : (t : Bool) → ltb x 2 ≡ t → cond t (allBits xs) false ≡ true → (allBits xs ≡ true → AreBits xs) → AreBits (x ∷ xs)
-    go true l r rest = bits-cons (ltb-true x 2 l) (rest r)
+    go true l r rest = below-cons (ltb-true x 2 l) (rest r)
     go false l r rest = absurd (clash r)
       where
         clash : false ≡ true → ⊥
@@ -26,4 +26,4 @@ all-are (x ∷ xs) e = go (ltb x 2) refl e (all-are xs)
 pub are-all : (xs : List ℕ) → AreBits xs → allBits xs ≡ true
 unfolding allBits
 are-all [] h = refl
-are-all (x ∷ xs) h = ap (λ (t : Bool). cond t (allBits xs) false) (lt-ltb x 2 (bits-head h)) ∙ are-all xs (bits-tail h)
+are-all (x ∷ xs) h = ap (λ (t : Bool). cond t (allBits xs) false) (lt-ltb x 2 (below-head h)) ∙ are-all xs (below-tail h)

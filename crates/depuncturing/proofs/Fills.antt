@@ -1,6 +1,6 @@
 -- Runs of filled places: none, one, and one run after another.
 -- Assumes nothing.
-use mathlib.Core.Path.{_≡_, refl, sym, ap, ap₂, _∙_, subst}
+use mathlib.Core.Path.{_≡_, refl, sym, ap, ap₂, _∙_}
 use mathlib.Core.Bool.{Bool, true, false}
 use mathlib.Core.List.{List, [], _∷_, _++_, append-assoc}
 use Prim.Native.Nat.{ℕ, _+_, _*_, _<_, _≤_}
@@ -14,7 +14,7 @@ use Rattle.laws.specs.Integers.{at, pickZ}
 use Rattle.laws.specs.Lists.{count}
 use Rattle.laws.specs.Words.{pickN}
 use Rattle.laws.proofs.Lists.{sets-append, count-append, count-le}
-use Rattle.en300401.specs.Puncturing.{depuncture, vector, regionMask, tailMask, mask}
+use Rattle.en300401.specs.Puncturing.{depuncture, regionMask, tailMask, mask}
 use Rattle.en300401.proofs.Puncturing.{depuncture-append, length-depuncture, depuncture-one, length-region}
 use Rattle.profiles.specs.Rows.{bits}
 use Rattle.protection.specs.declared.ProtectionParams.{ProtectionParams}

@@ -1,14 +1,14 @@
 -- Laws of bytes and their bits: lengths, parts, and there and back.
 -- Assumes nothing.
-use mathlib.Core.Path.{_≡_, refl, sym, ap, ap₂, _∙_, subst}
+use mathlib.Core.Path.{_≡_, refl, sym, ap, ap₂, _∙_}
 use mathlib.Core.List.{List, [], _∷_, _++_, append-assoc, append-nil}
-use Prim.Native.Nat.{ℕ, zero, suc, _+_, _*_, _-_, _/_, _%_, _^_, _<_, _≤_}
+use Prim.Native.Nat.{ℕ, zero, suc, _+_, _*_, _-_, _/_, _%_, _^_, _<_}
 use native.Mathlib.Omega.{arith}
 use native.Mathlib.Nat.{not-suc-le-zero, le-of-suc-le-suc}
 use lib.ListN.{length, getD, take, drop, length-append}
 use lib.Seq.{take-nil, drop-nil, take-append-add, drop-append-add}
 use Rattle.laws.specs.Bits.{numOf, bitsOf, AreBits, AreBytes}
-use Rattle.laws.proofs.Bits.{length-bits, bits-num, num-bits, num-append, bits-nil, bits-cons, bits-tail, num-lt}
+use Rattle.laws.proofs.Bits.{length-bits, bits-num, num-bits, num-append, below-nil, below-cons, below-tail, bits-are, num-lt, below-append}
 use Rattle.en300401.specs.Bytes.{bitsOfBytes, bytesOfBits}
 
 pub bits-length : (ys : List ℕ) → length (bitsOfBytes ys) ≡ 8 * length ys
@@ -58,7 +58,7 @@ packed (a ∷ b ∷ c ∷ d ∷ f ∷ g ∷ i ∷ []) k e h = absurd (omega arit
 packed (a ∷ b ∷ c ∷ d ∷ f ∷ g ∷ i ∷ j ∷ xs) k e h = go (packed xs (k - 1) (omega arith) (rest 8 h))
   where
     rest : (n : ℕ) → AreBits (a ∷ b ∷ c ∷ d ∷ f ∷ g ∷ i ∷ j ∷ xs) → AreBits xs
-    rest n q = bits-tail (bits-tail (bits-tail (bits-tail (bits-tail (bits-tail (bits-tail (bits-tail q)))))))
+    rest n q = below-tail (below-tail (below-tail (below-tail (below-tail (below-tail (below-tail (below-tail q)))))))
 
     eight : List ℕ
     eight = a ∷ b ∷ c ∷ d ∷ f ∷ g ∷ i ∷ j ∷ []
@@ -68,8 +68,8 @@ packed (a ∷ b ∷ c ∷ d ∷ f ∷ g ∷ i ∷ j ∷ xs) k e h = go (packed x
 
     bits : AreBits eight
     bits =
-        bits-cons (bit 0 (omega arith)) (bits-cons (bit 1 (omega arith)) (bits-cons (bit 2 (omega arith)) (bits-cons (bit 3 (omega arith))
-        (bits-cons (bit 4 (omega arith)) (bits-cons (bit 5 (omega arith)) (bits-cons (bit 6 (omega arith)) (bits-cons (bit 7 (omega arith)) bits-nil)))))))
+        below-cons (bit 0 (omega arith)) (below-cons (bit 1 (omega arith)) (below-cons (bit 2 (omega arith)) (below-cons (bit 3 (omega arith))
+        (below-cons (bit 4 (omega arith)) (below-cons (bit 5 (omega arith)) (below-cons (bit 6 (omega arith)) (below-cons (bit 7 (omega arith)) below-nil)))))))
 
     go : Packed xs (k - 1) → Packed (a ∷ b ∷ c ∷ d ∷ f ∷ g ∷ i ∷ j ∷ xs) k
     go p =
@@ -91,6 +91,20 @@ bits-append (x ∷ xs) ys = ap (λ (r : List ℕ). bitsOf 8 x ++ r) (bits-append
 pub bits-one : (y : ℕ) → bitsOfBytes (y ∷ []) ≡ bitsOf 8 y
 unfolding bitsOfBytes
 bits-one y = append-nil (bitsOf 8 y)
+
+pub bits-of-bytes : (ys : List ℕ) → AreBits (bitsOfBytes ys)
+unfolding bitsOfBytes
+bits-of-bytes [] = below-nil
+bits-of-bytes (y ∷ ys) = below-append (bits-are 8 y) (bits-of-bytes ys)
+
+pub bytes-back : (ys : List ℕ) → AreBytes ys → bytesOfBits (bitsOfBytes ys) ≡ ys
+unfolding bitsOfBytes bytesOfBits bitsOf
+bytes-back [] h = refl
+bytes-back (y ∷ ys) h =
+    ap₂ (λ (x : ℕ) (r : List ℕ). x ∷ r) (num-bits 8 y ∙ low y (h .each 0 (omega arith))) (bytes-back ys (record { each = λ i l. h .each (suc i) (omega arith) }))
+  where
+    low : (y : ℕ) → y < 256 → y % 256 ≡ y
+    low y l = omega arith
 
 -- two bytes as one number, the high byte first
 pub two-bytes : (a b : ℕ) → a < 256 → b < 256 → numOf (bitsOfBytes (a ∷ b ∷ [])) ≡ a * 256 + b

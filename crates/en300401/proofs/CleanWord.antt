@@ -12,7 +12,7 @@ use lib.ListN.{length, getD, length-reverse, length-map, List·getD-eq-default}
 use lib.IntN.{ℤ, pos}
 use Rattle.laws.specs.Bits.{AreBits}
 use Rattle.laws.specs.Integers.{at}
-use Rattle.laws.proofs.Bits.{bits-head, bits-tail}
+use Rattle.laws.proofs.Bits.{below-head, below-tail}
 use Rattle.laws.proofs.Lists.{length-listOf}
 use Rattle.laws.proofs.Words.{bit-lt}
 use Rattle.en300401.specs.Clean.{Agrees}
@@ -52,7 +52,7 @@ sent-bits m h = go m h [] sixZeros
   where
     go : (m : List ℕ) → AreBits m → (bs : List Bool) (r : List ℕ) → reverseAux (map bitN (reverseAux (map isOdd m) bs)) r ≡ reverseAux (map bitN bs) (m ++ r)
     go [] h bs r = refl
-    go (x ∷ m) h bs r = go m (bits-tail h) (isOdd x ∷ bs) r ∙ ap (λ (n : ℕ). reverseAux (map bitN bs) (n ∷ m ++ r)) (odd-is x (bits-head h))
+    go (x ∷ m) h bs r = go m (below-tail h) (isOdd x ∷ bs) r ∙ ap (λ (n : ℕ). reverseAux (map bitN bs) (n ∷ m ++ r)) (odd-is x (below-head h))
 
 -- it spells the message, zero beyond
 sent-spells : (m : List ℕ) → AreBits m → Spells (λ (i : ℕ). getD m i 0) (sentPath m)
@@ -68,8 +68,8 @@ sent-spells m h =
     bits : (l : List ℕ) (bs : List Bool) → AreBits l → ((i : ℕ) → getD l i 0 ≡ a (length bs + i)) → Spells a bs → Spells a (reverseAux (map isOdd l) bs)
     bits [] bs k e p = p
     bits (x ∷ l) bs k e p =
-        bits l (isOdd x ∷ bs) (bits-tail k) (λ i. e (suc i) ∙ ap a (omega arith))
-        (next (odd-is x (bits-head k) ∙ e 0 ∙ ap a (add-zero (length bs))) p)
+        bits l (isOdd x ∷ bs) (below-tail k) (λ i. e (suc i) ∙ ap a (omega arith))
+        (next (odd-is x (below-head k) ∙ e 0 ∙ ap a (add-zero (length bs))) p)
 
     more : {bs : List Bool} → Spells a bs → length m ≤ length bs → Spells a (false ∷ bs)
     more p l = next (sym (List·getD-eq-default m 0 l)) p

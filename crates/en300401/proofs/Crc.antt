@@ -1,10 +1,10 @@
 -- Laws of the CRC register: it stays below 2^16, and goes on over more bits.
 -- Assumes nothing.
-use mathlib.Core.Path.{_≡_, refl, sym, ap, _∙_, subst}
+use mathlib.Core.Path.{_≡_, refl, ap, _∙_}
 use mathlib.Core.List.{List, [], _∷_, _++_}
-use Prim.Native.Nat.{ℕ, zero, suc, _+_, _*_, _-_, _/_, _%_, _^_, _<_, _≤_}
+use Prim.Native.Nat.{ℕ, _+_, _*_, _/_, _%_, _^_, _<_}
 use native.Mathlib.Omega.{arith}
-use lib.Bits.{bitXor, xor-lt}
+use lib.Bits.{xor-lt}
 use Rattle.laws.specs.Bits.{bitsOf}
 use Rattle.en300401.specs.Bytes.{bitsOfBytes}
 use Rattle.en300401.specs.Crc.{generator, crcStep, crcFrom}

@@ -1,11 +1,11 @@
 -- Laws of the EEP profiles: two regions under two of the vectors, and 96 places for each kbit/s.
 -- Assumes nothing.
 use mathlib.Core.Path.{_≡_, _∙_}
-use Prim.Native.Nat.{ℕ, zero, suc, _+_, _*_, _-_, _/_, _%_, _<_, _≤_}
+use Prim.Native.Nat.{ℕ, zero, suc, _+_, _*_, _%_, _<_, _≤_}
 use native.Mathlib.Omega.{arith}
 use lib.ListN.{length}
 use Rattle.en300401.specs.Puncturing.{mask}
-use Rattle.en300401.specs.Eep.{Level, unit, levelOf, first, eepProfile}
+use Rattle.en300401.specs.Eep.{unit, levelOf, first, eepProfile}
 use Rattle.en300401.proofs.Puncturing.{Usable, usable-two, blocksIn, length-mask}
 
 module _ (rate : ℕ) (small : rate < 65536) where

@@ -5,7 +5,6 @@ use mathlib.Core.Bool.{Bool, cond}
 use Prim.Native.Nat.{ℕ, _+_, _-_, _%_, _<_}
 use native.Mathlib.Omega.{arith}
 use lib.Dec.{ltb, ltb→lt}
-use lib.ListN.{getD}
 use borrow.Author.Tests.{le-ltb}
 use Rattle.laws.proofs.Tables.{rule-at}
 use Rattle.en300401.specs.Interleaving.{delays, delay, interleaved}

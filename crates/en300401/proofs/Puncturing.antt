@@ -1,9 +1,9 @@
 -- Laws of puncturing: sizes, what is kept, there and back.
 -- Assumes nothing.
-use mathlib.Core.Path.{_≡_, refl, sym, ap, _∙_, subst}
+use mathlib.Core.Path.{_≡_, refl, ap, _∙_}
 use mathlib.Core.Bool.{Bool, true, false}
 use mathlib.Core.List.{List, [], _∷_, _++_}
-use Prim.Native.Nat.{ℕ, zero, suc, _+_, _*_, _/_, _%_, _<_, _≤_}
+use Prim.Native.Nat.{ℕ, zero, suc, _+_, _*_, _%_, _<_, _≤_}
 use native.Mathlib.Omega.{arith}
 use native.Mathlib.Nat.{mul-assoc, mul-comm, zero-mul, mul-le-mul-left, not-suc-le-zero, le-of-suc-le-suc}
 use lib.Dec.{T, eqb, eqb→eq, ltb, leb, ltb→lt, leb→le, lit<, lit≤}

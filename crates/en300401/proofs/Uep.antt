@@ -1,15 +1,15 @@
 -- Laws of the UEP table, each by one test over the whole table.
 -- Assumes nothing.
-use mathlib.Core.Path.{_≡_, refl, ap, _∙_}
+use mathlib.Core.Path.{_≡_, refl, _∙_}
 use mathlib.Core.Bool.{Bool, true, false, cond, _&&_, _||_}
 use mathlib.Core.List.{List, [], _∷_}
-use mathlib.Core.Option.{Option, none, some}
+use mathlib.Core.Option.{some}
 use Prim.Native.Nat.{ℕ, zero, suc, _+_, _*_, _<_, _≤_}
 use native.Mathlib.Omega.{arith}
 use lib.Dec.{T, eqb, leb, ltb, eqb→eq, leb→le, ltb→lt}
 use lib.ListN.{length, getD}
 use borrow.Author.Tests.{eqb-true}
-use Rattle.laws.specs.Tables.{both, every}
+use Rattle.laws.specs.Tables.{every}
 use Rattle.laws.proofs.Lists.{found-passes, found-every}
 use Rattle.laws.proofs.Tables.{both-left, both-right, rule-at}
 use Rattle.en300401.specs.Puncturing.{Region, noRegion, mask, keptSize}

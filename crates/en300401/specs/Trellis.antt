@@ -1,16 +1,15 @@
 -- Document 01, "viterbi.rs": the trellis of the mother code, its paths and their scores, and which of two paths wins.
 use mathlib.Core.Path.{_≡_}
-use mathlib.Core.Bool.{Bool, true, false}
+use mathlib.Core.Bool.{Bool}
 use mathlib.Core.List.{List, [], _∷_}
 use mathlib.Core.Logic.{_⊎_}
-use Prim.Native.Nat.{ℕ, zero, suc, _+_, _*_, _/_, _%_, _<_, _≤_}
+use Prim.Native.Nat.{ℕ, zero, suc, _+_, _*_, _%_, _<_}
 use lib.Bits.{bitAnd}
 use lib.Count.{ones}
-use lib.Dec.{ltb}
 use lib.ListN.{length, getD}
 use lib.IntN.{ℤ, pos, negsuc, negℤ, _+ℤ_, _-ℤ_}
-use lib.Signed.{ltZ, _≤ℤ_, _<ℤ_}
-use Rattle.laws.specs.Integers.{at, pickZ}
+use lib.Signed.{_≤ℤ_, _<ℤ_}
+use Rattle.laws.specs.Integers.{at}
 use Rattle.laws.specs.Words.{pickN}
 
 -- the standard's 133, 171, 145, 133 octal mirrored, since the newest bit is lowest here

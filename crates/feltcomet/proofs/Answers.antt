@@ -1,7 +1,7 @@
 -- From the rooms' answers to a number: depuncturing and decoding.
 -- Assumes nothing.
 use mathlib.Core.Path.{_≡_, refl, sym, ap, _∙_, subst}
-use mathlib.Core.Bool.{Bool, true, false}
+use mathlib.Core.Bool.{Bool, true, false, cond}
 use mathlib.Core.List.{List, [], _∷_}
 use mathlib.Core.Option.{Option, none, some}
 use Prim.Native.Nat.{ℕ, zero, suc, _<_, _≤_, min}
@@ -20,7 +20,7 @@ use Rattle.depuncturing.specs.Promises.{DepuncturePromise}
 use Rattle.viterbi.specs.declared.Score.{Score}
 use Rattle.viterbi.specs.declared.Decoding.{Decoding}
 use Rattle.viterbi.specs.declared.Decoding.the-variants.{Done, Refused}
-use Rattle.viterbi.specs.Decoders.{steps, pickO, refusal, answerOf, Decoded}
+use Rattle.viterbi.specs.Decoders.{steps, refusal, answerOf, Decoded}
 use Rattle.feltcomet.specs.Calls.{short}
 use Rattle.feltcomet.specs.Code.{numberIn, Told, noPlace}
 use Rattle.feltcomet.specs.Decoders.{numberOf, decoderNumber, Untouched, Written, Decoder}
@@ -35,7 +35,7 @@ refusal-positive : (n words bits k : ℕ) → refusal n words bits ≡ some k �
 unfolding refusal
 refusal-positive n words bits k e = go (ltb 65536 n) (ltb (min words bits) n) e
   where
-    go : (a b : Bool) → pickO a (some 11) (pickO b (some 8) none) ≡ some k → 0 < k
+    go : (a b : Bool) → cond a (some 11) (cond b (some 8) none) ≡ some k → 0 < k
     go true b e = let z : 11 ≡ k = cc in omega arith
     go false true e = let z : 8 ≡ k = cc in omega arith
     go false false e = let z : _≡_ {A = ℕ} 0 1 = cc in absurd (omega arith)
@@ -45,7 +45,7 @@ pub no-place-number : (n words bits metrics : ℕ) → metrics < 1 → noPlace n
 unfolding decoderNumber refusal
 no-place-number n words bits metrics h = rw (lt-ltb _ _ h) (go (ltb 65536 n) (ltb (min words bits) n))
   where
-    go : (a b : Bool) → orElse (check 11 a) 8 ≡ orElse (numberOf (pickO a (some 11) (pickO b (some 8) none))) 8
+    go : (a b : Bool) → orElse (check 11 a) 8 ≡ orElse (numberOf (cond a (some 11) (cond b (some 8) none))) 8
     go true b = refl
     go false true = refl
     go false false = refl

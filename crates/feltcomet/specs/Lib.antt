@@ -3,3 +3,4 @@ pub mod Code
 pub mod Decoders
 pub mod Depuncturing
 pub mod Fic
+pub mod Msc

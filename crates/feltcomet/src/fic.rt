@@ -1,7 +1,6 @@
 // FIC handling for C and Rust: the room's function, with its figures in lent places.
 ghost use mathlib.Core.Path.{_≡_};
 ghost use Prim.Native.Nat.{_<_, _≤_};
-ghost use lib.Dec.{ltb};
 ghost use lib.ListN.{length};
 ghost use Rattle.fic_handler.specs.Blocks.{lent};
 ghost use Rattle.feltcomet.specs.Fic.{figures, noFigures, countsPut, PutQuality, PutAll, FicCall};

@@ -17,6 +17,7 @@ ghost use Rattle.feltcomet.specs.Decoders.{Decoder};
 ghost use Rattle.feltcomet.specs.Depuncturing.{FilledMsc, FilledFic};
 
 mod fic;
+mod msc;
 
 use protection::Description;
 use protection::Judged;

@@ -1,10 +1,8 @@
 // The program `fic`: soft values from standard input, as two's-complement bytes, 9,216 at a time as three symbols; the FIBs that pass to
 // standard output, 32 bytes each. An incomplete end is not decoded; a failed write ends it.
 ghost use mathlib.Core.Path.{_≡_};
-ghost use mathlib.Core.List.{map};
 ghost use Prim.Native.Nat.{_≤_};
 ghost use lib.ListN.{length};
-ghost use Rattle.fic.specs.Soft.{softOf};
 use fic_handler::FicAnswer;
 use libc::STDIN_FILENO;
 use libc::STDOUT_FILENO;
@@ -44,27 +42,6 @@ fn some_fibs() -> [u8; 384]
     ensures { λ r. ⌜ 384 ≡ length r ⌝ }
 {
     [0; 384]
-}
-
-fn soft_of(byte: u8) -> i8
-    ensures { λ r. ⌜ r ≡ softOf byte ⌝ }
-{
-    if byte < 128 {
-        return byte as i8;
-    }
-    -1 - ((255 - byte) as i8)
-}
-
-// The bytes as soft values.
-fn convert(bytes: &[u8], soft: &mut [i8])
-    requires { ⌜ length (now bytes) ≡ length (now soft) ⌝ }
-    ensures { λ r. ⌜ now (soft .exit) ≡ map softOf (now (bytes .entry)) ⌝ }
-{
-    let mut i: usize = 0;
-    while i < soft.len() {
-        soft[i] = soft_of(bytes[i]);
-        i += 1;
-    }
 }
 
 // How many bytes of FIBs to write; none where the call was refused.
@@ -116,7 +93,7 @@ fn turn(
     if got < 9216 {
         return false;
     }
-    convert(&*bytes, &mut *soft);
+    soft_bytes::convert(&*bytes, &mut *soft);
     let n = decode(
         &*soft,
         &mut *depunctured,

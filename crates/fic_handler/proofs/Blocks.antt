@@ -1,18 +1,16 @@
 -- Laws of one block: its values with the erasures put back, and its data bits at the front of the lent ones.
 -- Assumes nothing.
-use mathlib.Core.Path.{_≡_, refl, sym, ap, ap₂, _∙_, subst}
+use mathlib.Core.Path.{_≡_, ap, _∙_, subst}
 use mathlib.Core.Bool.{Bool}
 use mathlib.Core.List.{List, _++_, append-assoc}
-use Prim.Native.Nat.{ℕ, _+_, _*_, _<_, _≤_}
+use Prim.Native.Nat.{ℕ, _*_, _≤_}
 use native.Mathlib.Omega.{arith}
 use borrow.Author.Tests.{le-ltb}
-use lib.Dec.{ltb}
 use lib.IntN.{ℤ}
-use lib.ListN.{length, take, drop, length-append}
-use lib.Seq.{take-at, length-take-le, take-append-le}
+use lib.ListN.{length, take, drop}
+use lib.Seq.{take-at, length-take-le}
 use Rattle.laws.specs.Bits.{AreBits}
-use Rattle.laws.proofs.Bits.{bits-take}
-use Rattle.en300401.specs.Dispersal.{disperse}
+use Rattle.laws.proofs.Bits.{below-take}
 use Rattle.en300401.specs.Puncturing.{mask, depuncture, ficProfile}
 use Rattle.en300401.specs.Trellis.{zeroEnd}
 use Rattle.en300401.proofs.Dispersal.{disperse-length, disperse-bits}
@@ -45,7 +43,7 @@ data-length {decoded = decoded} d = disperse-length (take 768 decoded) ∙ lengt
 
 pub data-are : {xs : List ℤ} {decoded : List ℕ} {m : ℤ} → Decodes zeroEnd xs 774 decoded m → AreBits (dataBits decoded)
 unfolding dataBits
-data-are d = disperse-bits (bits-take 768 (decoded-bits d))
+data-are d = disperse-bits (below-take 768 (decoded-bits d))
 
 -- the data bits stand at the front
 pub data-front : {xs : List ℤ} {words bits : List ℕ} {q : Quality} {words' bits' : List ℕ} (b : BlockDecoded xs words bits q words' bits') → take 768 bits' ≡ dataBits (b .block .decoded)

@@ -1,20 +1,19 @@
 -- Laws of FIBs kept: lengths, one FIB more, and what the output then holds.
 -- Assumes nothing.
-use mathlib.Core.Path.{_≡_, refl, sym, ap, ap₂, _∙_, subst}
-use mathlib.Core.Bool.{Bool, true, false}
-use mathlib.Core.List.{List, [], _∷_, _++_, append-assoc, append-nil}
-use Prim.Native.Nat.{ℕ, zero, suc, _+_, _*_, _/_, _<_, _≤_}
+use mathlib.Core.Path.{_≡_, refl, sym, ap, ap₂, _∙_}
+use mathlib.Core.Bool.{Bool, true, false, cond}
+use mathlib.Core.List.{List, [], _++_, append-assoc, append-nil}
+use Prim.Native.Nat.{ℕ, zero, suc, _+_, _*_, _<_, _≤_}
 use native.Mathlib.Omega.{arith}
 use native.Mathlib.Numerals.{add-one}
 use lib.ListN.{length, take, drop, length-append, length-take, length-drop}
-use lib.Seq.{take-at, drop-at, drop-drop, length-take-le, take-all}
-use Rattle.laws.specs.Bits.{AreBits}
+use lib.Seq.{take-at, drop-at, drop-drop}
 use Rattle.laws.specs.Words.{pickN}
 use Rattle.laws.proofs.Words.{bit-lt}
 use Rattle.en300401.specs.Bytes.{bytesOfBits}
 use Rattle.en300401.specs.Crc.{fibValid}
 use Rattle.en300401.proofs.Bytes.{bytes-length}
-use Rattle.fic_handler.specs.Blocks.{fibOf, good, pickL, passed, countOf, KeptFib, KeptFibs}
+use Rattle.fic_handler.specs.Blocks.{fibOf, good, passed, countOf, KeptFib, KeptFibs}
 
 pub fib-length : (bits : List ℕ) (j : ℕ) → length bits ≡ 768 → j < 3 → length (fibOf bits j) ≡ 256
 fib-length bits j e h = simp (length-take, length-drop) (omega arith)
@@ -29,9 +28,9 @@ pub passed-length : (bits : List ℕ) (n : ℕ) → length bits ≡ 768 → n �
 unfolding passed countOf
 passed-length bits zero e h = refl
 passed-length bits (suc n) e h =
-    length-append (passed bits n) (pickL (good bits n) (bytesOfBits (fibOf bits n)) []) ∙ one (good bits n) (passed-length bits n e (omega arith))
+    length-append (passed bits n) (cond (good bits n) (bytesOfBits (fibOf bits n)) []) ∙ one (good bits n) (passed-length bits n e (omega arith))
   where
-    one : (t : Bool) → length (passed bits n) ≡ 32 * countOf bits n → length (passed bits n) + length (pickL t (bytesOfBits (fibOf bits n)) []) ≡ 32 * (countOf bits n + pickN t 1 0)
+    one : (t : Bool) → length (passed bits n) ≡ 32 * countOf bits n → length (passed bits n) + length (cond t (bytesOfBits (fibOf bits n)) []) ≡ 32 * (countOf bits n + pickN t 1 0)
     one true r = omega (arith, bytes-length (fibOf bits n), fib-length bits n e h)
     one false r = omega arith
 
@@ -44,7 +43,7 @@ unfolding passed countOf
 kept-next {bits} {before} {after} {new} {j} {kept} {k} e h v w =
     record {
       kept-is = ap₂ (λ (a b : ℕ). a + b) (v .kept-is) (w .kept-is) ∙ ap (countOf bits) (sym (add-one j));
-      bytes = ap₂ (λ (a b : List ℕ). a ++ b) front (w .bytes ∙ ap (λ (r : List ℕ). pickL (good bits j) (bytesOfBits (fibOf bits j) ++ drop 32 r) r) back) ∙ one (good bits j) (w .kept-is) ∙ ap (λ (n : ℕ). passed bits n ++ drop (32 * (kept + k)) before) (sym (add-one j));
+      bytes = ap₂ (λ (a b : List ℕ). a ++ b) front (w .bytes ∙ ap (λ (r : List ℕ). cond (good bits j) (bytesOfBits (fibOf bits j) ++ drop 32 r) r) back) ∙ one (good bits j) (w .kept-is) ∙ ap (λ (n : ℕ). passed bits n ++ drop (32 * (kept + k)) before) (sym (add-one j));
     }
   where
     long : length (passed bits j) ≡ 32 * kept
@@ -62,6 +61,6 @@ kept-next {bits} {before} {after} {new} {j} {kept} {k} e h v w =
     none : k ≡ 0 → 32 * kept ≡ 32 * (kept + k)
     none q = omega arith
 
-    one : (t : Bool) → k ≡ pickN t 1 0 → passed bits j ++ pickL t (bytesOfBits (fibOf bits j) ++ drop 32 (drop (32 * kept) before)) (drop (32 * kept) before) ≡ (passed bits j ++ pickL t (bytesOfBits (fibOf bits j)) []) ++ drop (32 * (kept + k)) before
+    one : (t : Bool) → k ≡ pickN t 1 0 → passed bits j ++ cond t (bytesOfBits (fibOf bits j) ++ drop 32 (drop (32 * kept) before)) (drop (32 * kept) before) ≡ (passed bits j ++ cond t (bytesOfBits (fibOf bits j)) []) ++ drop (32 * (kept + k)) before
     one true q = sym (append-assoc (passed bits j) (bytesOfBits (fibOf bits j)) (drop 32 (drop (32 * kept) before))) ∙ ap (λ (r : List ℕ). (passed bits j ++ bytesOfBits (fibOf bits j)) ++ r) (drop-drop 32 (32 * kept) before ∙ ap (λ (n : ℕ). drop n before) (more q))
     one false q = ap₂ (λ (a b : List ℕ). a ++ b) (sym (append-nil (passed bits j))) (ap (λ (n : ℕ). drop n before) (none q))

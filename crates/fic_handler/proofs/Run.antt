@@ -1,9 +1,9 @@
 -- The blocks done so far, and that one more block keeps what is said of them.
 -- Assumes nothing.
 use mathlib.Core.Path.{_≡_, refl, sym, ap, ap₂, _∙_, subst}
-use mathlib.Core.Bool.{Bool, true, false}
-use mathlib.Core.List.{List, [], _∷_, _++_, append-assoc}
-use Prim.Native.Nat.{ℕ, zero, suc, _+_, _*_, _/_, _<_, _≤_}
+use mathlib.Core.Bool.{Bool, cond}
+use mathlib.Core.List.{List, [], _++_, append-assoc}
+use Prim.Native.Nat.{ℕ, zero, suc, _+_, _*_, _<_, _≤_}
 use native.Mathlib.Omega.{arith}
 use native.Mathlib.Decide.{ℕ-discrete, decLt}
 use native.Mathlib.Nat.{not-suc-le-zero}
@@ -13,14 +13,13 @@ use lib.Dec.{eqb, ltb}
 use lib.IntN.{ℤ, pos}
 use lib.ListN.{length, getD, set, take, drop, length-set, length-append, length-drop}
 use lib.Seq.{ext-getD, take-at, drop-at, drop-drop, getD-set-same, getD-set-other}
-use Rattle.laws.specs.Lists.{listFrom, listOf}
+use Rattle.laws.specs.Lists.{listFrom}
 use Rattle.laws.proofs.Lists.{length-listOf, listOf-at}
 use Rattle.quality.specs.declared.Quality.{Quality}
 use Rattle.quality.specs.Figures.{qualityOf, nothing}
-use Rattle.viterbi.specs.Result.{Decodes}
 use Rattle.viterbi.proofs.Result.{decoded-length}
-use Rattle.fic_handler.specs.Blocks.{blocksIn, blockOf, received, dataBits, countOf, passed, Block, IsBlock, BlockProcessed, Lent, lent, written, total}
-use Rattle.fic_handler.specs.Promise.{within, four, workAfter}
+use Rattle.fic_handler.specs.Blocks.{blockOf, received, dataBits, countOf, passed, Block, IsBlock, BlockProcessed, Lent, lent, written, total}
+use Rattle.fic_handler.specs.Promise.{four, workAfter}
 use Rattle.fic_handler.proofs.Fibs.{count-le, passed-length}
 use Rattle.fic_handler.proofs.Blocks.{restored-length, data-length}
 
@@ -28,10 +27,10 @@ use Rattle.fic_handler.proofs.Blocks.{restored-length, data-length}
 
 module _ {ℓ} {A : Type ℓ} (d : A) where
   four-length : (n : ℕ) (f : ℕ → A) (absent : A) → length (four n f absent) ≡ 4
-  four-length n f absent = length-listOf 4 (λ (b : ℕ). within (ltb b n) (f b) absent)
+  four-length n f absent = length-listOf 4 (λ (b : ℕ). cond (ltb b n) (f b) absent)
 
-  four-at : (n : ℕ) (f : ℕ → A) (absent : A) (i : ℕ) → i < 4 → getD (four n f absent) i d ≡ within (ltb i n) (f i) absent
-  four-at n f absent i h = listOf-at 4 (λ (b : ℕ). within (ltb b n) (f b) absent) d i h
+  four-at : (n : ℕ) (f : ℕ → A) (absent : A) (i : ℕ) → i < 4 → getD (four n f absent) i d ≡ cond (ltb i n) (f i) absent
+  four-at n f absent i h = listOf-at 4 (λ (b : ℕ). cond (ltb b n) (f b) absent) d i h
 
   -- block n takes its value, and those before it keep theirs
   pub four-next : (n : ℕ) (f g : ℕ → A) (absent x : A) (xs : List A) → n < 4 → xs ≡ four n f absent → ((i : ℕ) → i < n → f i ≡ g i) → x ≡ g n → set xs n x ≡ four (n + 1) g absent
@@ -42,29 +41,29 @@ module _ {ℓ} {A : Type ℓ} (d : A) where
       long : length xs ≡ 4
       long = ap length e ∙ four-length n f absent
 
-      go : (i : ℕ) → i < 4 → Dec (i ≡ n) → Dec (i < n) → getD (set xs n x) i d ≡ within (ltb i (n + 1)) (g i) absent
+      go : (i : ℕ) → i < 4 → Dec (i ≡ n) → Dec (i < n) → getD (set xs n x) i d ≡ cond (ltb i (n + 1)) (g i) absent
       go i l (yes p) t =
-          subst (λ (m : ℕ). getD (set xs n x) m d ≡ within (ltb m (n + 1)) (g m) absent) (sym p)
-          (getD-set-same xs n x d (omega (arith, long)) ∙ q ∙ ap (λ (b : Bool). within b (g n) absent) (sym (lt-ltb n (n + 1) (omega arith))))
+          subst (λ (m : ℕ). getD (set xs n x) m d ≡ cond (ltb m (n + 1)) (g m) absent) (sym p)
+          (getD-set-same xs n x d (omega (arith, long)) ∙ q ∙ ap (λ (b : Bool). cond b (g n) absent) (sym (lt-ltb n (n + 1) (omega arith))))
       go i l (no p) (yes t) =
-          getD-set-other xs n i x d p ∙ ap (λ (r : List A). getD r i d) e ∙ four-at n f absent i l ∙ ap (λ (b : Bool). within b (f i) absent) (lt-ltb i n t) ∙ same i t
-          ∙ ap (λ (b : Bool). within b (g i) absent) (sym (lt-ltb i (n + 1) (omega arith)))
+          getD-set-other xs n i x d p ∙ ap (λ (r : List A). getD r i d) e ∙ four-at n f absent i l ∙ ap (λ (b : Bool). cond b (f i) absent) (lt-ltb i n t) ∙ same i t
+          ∙ ap (λ (b : Bool). cond b (g i) absent) (sym (lt-ltb i (n + 1) (omega arith)))
       go i l (no p) (no t) =
-          getD-set-other xs n i x d p ∙ ap (λ (r : List A). getD r i d) e ∙ four-at n f absent i l ∙ ap (λ (b : Bool). within b (f i) absent) (le-ltb i n (omega arith))
-          ∙ ap (λ (b : Bool). within b (g i) absent) (sym (le-ltb i (n + 1) (omega arith)))
+          getD-set-other xs n i x d p ∙ ap (λ (r : List A). getD r i d) e ∙ four-at n f absent i l ∙ ap (λ (b : Bool). cond b (f i) absent) (le-ltb i n (omega arith))
+          ∙ ap (λ (b : Bool). cond b (g i) absent) (sym (le-ltb i (n + 1) (omega arith)))
 
 -- ---- one block more in a row of blocks
 
 with-block : (ℕ → Block) → ℕ → Block → ℕ → Block
-with-block k n x i = within (eqb i n) x (k i)
+with-block k n x i = cond (eqb i n) x (k i)
 
 with-same : (k : ℕ → Block) (n : ℕ) (x : Block) → with-block k n x n ≡ x
 unfolding with-block
-with-same k n x = ap (λ (b : Bool). within b x (k n)) (eq-eqb n n refl)
+with-same k n x = ap (λ (b : Bool). cond b x (k n)) (eq-eqb n n refl)
 
 with-other : (k : ℕ → Block) (n : ℕ) (x : Block) (i : ℕ) → i < n → k i ≡ with-block k n x i
 unfolding with-block
-with-other k n x i h = ap (λ (b : Bool). within b x (k i)) (sym (ne-eqb i n (λ e. omega arith)))
+with-other k n x i h = ap (λ (b : Bool). cond b x (k i)) (sym (ne-eqb i n (λ e. omega arith)))
 
 pub total-ext : (k l : ℕ → Block) (n : ℕ) → ((i : ℕ) → i < n → k i ≡ l i) → total k n ≡ total l n
 unfolding total

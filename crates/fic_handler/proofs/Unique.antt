@@ -1,25 +1,23 @@
 -- Two results that the promise of `process_fic` allows are one: the answer, the counts, the records and every lent byte.
 -- Assumes nothing.
-use mathlib.Core.Path.{_≡_, refl, sym, ap, ap₂, _∙_, subst}
-use mathlib.Core.Bool.{Bool, true, false}
+use mathlib.Core.Path.{_≡_, refl, sym, ap, ap₂, _∙_}
+use mathlib.Core.Bool.{Bool, true, false, cond}
 use mathlib.Core.List.{List, _∷_, [], _++_}
-use Prim.Native.Nat.{ℕ, zero, suc, _+_, _*_, _<_, _≤_}
+use Prim.Native.Nat.{ℕ, zero, suc, _*_, _<_}
 use native.Mathlib.Omega.{arith}
-use native.Mathlib.Decide.{decLt}
-use borrow.Author.Tests.{lt-ltb, le-ltb, ltb-true}
+use borrow.Author.Tests.{ltb-true}
 use lib.Dec.{ltb}
 use lib.IntN.{ℤ}
-use lib.ListN.{length, drop}
-use Rattle.laws.specs.Lists.{listFrom, listOf}
-use Rattle.refusal.specs.Outcome.{Outcome, gives, refuses}
-use Rattle.quality.specs.declared.Quality.{Quality}
+use lib.ListN.{drop}
+use Rattle.laws.specs.Lists.{listFrom}
+use Rattle.refusal.specs.Outcome.{gives}
 use Rattle.quality.specs.Figures.{qualityOf, nothing}
 use Rattle.viterbi.proofs.Result.{bits-one, metric-one, words-one}
 use Rattle.fic_handler.specs.declared.Fic.{Fic}
 use Rattle.fic_handler.specs.declared.FicAnswer.{FicAnswer}
 use Rattle.fic_handler.specs.declared.FicAnswer.the-variants.{Fibs, Refused}
-use Rattle.fic_handler.specs.Blocks.{joined, blocksIn, received, dataBits, countOf, Block, IsBlock, Lent, lent, written, total}
-use Rattle.fic_handler.specs.Promise.{answerOf, within, four, workAfter, refusalOf, Processed, Away, Outcomes, FicPromise}
+use Rattle.fic_handler.specs.Blocks.{joined, received, dataBits, countOf, Block, IsBlock, Lent, lent, total}
+use Rattle.fic_handler.specs.Promise.{answerOf, four, workAfter, refusalOf, Processed, Outcomes, FicPromise}
 use Rattle.fic_handler.proofs.Run.{total-ext, written-ext}
 
 -- an answer is one by what it says
@@ -41,11 +39,11 @@ four-ext : {A : Type 0} (n : ℕ) (f g : ℕ → A) (absent : A) → ((b : ℕ) 
 unfolding listFrom
 four-ext {A} n f g absent h = λ i. same 0 i ∷ same 1 i ∷ same 2 i ∷ same 3 i ∷ []
   where
-    go : (b : ℕ) (t : Bool) → ltb b n ≡ t → within t (f b) absent ≡ within t (g b) absent
+    go : (b : ℕ) (t : Bool) → ltb b n ≡ t → cond t (f b) absent ≡ cond t (g b) absent
     go b true e = h b (ltb-true b n e)
     go b false e = refl
 
-    same : (b : ℕ) → within (ltb b n) (f b) absent ≡ within (ltb b n) (g b) absent
+    same : (b : ℕ) → cond (ltb b n) (f b) absent ≡ cond (ltb b n) (g b) absent
     same b = go b (ltb b n) refl
 
 work-ext : (xs : List ℤ) (k l : ℕ → Block) (n : ℕ) (before : Lent) → ((b : ℕ) → b < n → k b ≡ l b) → workAfter xs k n before ≡ workAfter xs l n before

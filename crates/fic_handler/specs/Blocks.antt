@@ -1,8 +1,8 @@
 -- Document 01, fic/handler.rs: three symbols joined and cut into blocks, a block's data bits and its FIBs.
 use mathlib.Core.Path.{_≡_}
-use mathlib.Core.Bool.{Bool, true, false}
-use mathlib.Core.List.{List, [], _∷_, _++_}
-use Prim.Native.Nat.{ℕ, zero, suc, _+_, _*_, _/_, _<_, _≤_}
+use mathlib.Core.Bool.{Bool, cond}
+use mathlib.Core.List.{List, [], _++_}
+use Prim.Native.Nat.{ℕ, zero, suc, _+_, _*_, _/_, _≤_}
 use lib.ListN.{length, take, drop}
 use lib.IntN.{ℤ, pos}
 use Rattle.laws.specs.Words.{pickN}
@@ -43,14 +43,10 @@ fibOf bits j = take 256 (drop (256 * j) bits)
 abbrev pub good : List ℕ → ℕ → Bool
 good bits j = fibValid (fibOf bits j)
 
-abbrev pub pickL : Bool → List ℕ → List ℕ → List ℕ
-pickL true a b = a
-pickL false a b = b
-
 -- the passed FIBs of the first n of a block, in order, as bytes; and how many
 unfoldable pub passed : List ℕ → ℕ → List ℕ
 passed bits zero = []
-passed bits (suc n) = passed bits n ++ pickL (good bits n) (bytesOfBits (fibOf bits n)) []
+passed bits (suc n) = passed bits n ++ cond (good bits n) (bytesOfBits (fibOf bits n)) []
 
 unfoldable pub countOf : List ℕ → ℕ → ℕ
 countOf bits zero = 0
@@ -59,7 +55,7 @@ countOf bits (suc n) = countOf bits n + pickN (good bits n) 1 0
 -- a FIB's bits, tested: packed into the start of the output if it passed, and else nothing
 pub record KeptFib (bits before : List ℕ) (kept : ℕ) (after : List ℕ) : Type 0 where
   pub kept-is : kept ≡ pickN (fibValid bits) 1 0
-  pub bytes : after ≡ pickL (fibValid bits) (bytesOfBits bits ++ drop 32 before) before
+  pub bytes : after ≡ cond (fibValid bits) (bytesOfBits bits ++ drop 32 before) before
 
 -- of the first n FIBs the passed ones stand at the start of the output, and the rest of it is as it was
 pub record KeptFibs (bits : List ℕ) (n : ℕ) (before : List ℕ) (kept : ℕ) (after : List ℕ) : Type 0 where

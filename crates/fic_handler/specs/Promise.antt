@@ -1,14 +1,13 @@
 -- Document 01, fic/handler.rs, refusals 11 and 8, Room: what three symbols give.
 use mathlib.Core.Path.{_≡_}
-use mathlib.Core.Bool.{Bool, true, false}
+use mathlib.Core.Bool.{cond}
 use mathlib.Core.List.{List, [], _∷_, _++_}
-use Prim.Native.Nat.{ℕ, zero, suc, _+_, _*_, _/_, _<_, _≤_}
+use Prim.Native.Nat.{ℕ, zero, suc, _*_, _<_, _≤_}
 use lib.Dec.{ltb}
 use lib.ListN.{length, drop}
 use lib.IntN.{ℤ}
 use Rattle.laws.specs.Lists.{listOf}
 use Rattle.refusal.specs.Outcome.{check, firstOf, Outcome, gives, refuses}
-use Rattle.quality.specs.declared.Quality.{Quality}
 use Rattle.quality.specs.Figures.{qualityOf, nothing}
 use Rattle.fic_handler.specs.declared.FicAnswer.{FicAnswer}
 use Rattle.fic_handler.specs.declared.FicAnswer.the-variants.{Fibs, Refused}
@@ -35,12 +34,8 @@ answerOf (Refused r) = refuses (r .number)
 
 -- a value for each of the four blocks: of the first n its own, of the others none
 module _ {ℓ} {A : Type ℓ} where
-  abbrev pub within : Bool → A → A → A
-  within true a b = a
-  within false a b = b
-
   abbrev pub four : ℕ → (ℕ → A) → A → List A
-  four n f absent = listOf 4 (λ (b : ℕ). within (ltb b n) (f b) absent)
+  four n f absent = listOf 4 (λ (b : ℕ). cond (ltb b n) (f b) absent)
 
 -- the work buffers after n blocks: the last block's values, choices and bits, each before the rest as it was; as they were after none
 unfoldable pub workAfter : List ℤ → (ℕ → Block) → ℕ → Lent → Lent

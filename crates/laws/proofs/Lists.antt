@@ -1,18 +1,18 @@
 -- Laws of the lists that are made from a rule, of a run of stores, and of the first value that passes a test.
 -- Assumes nothing.
 use mathlib.Core.Path.{_≡_, refl, sym, ap, _∙_, subst}
-use mathlib.Core.Bool.{Bool, true, false, cond, true≢false}
+use mathlib.Core.Bool.{Bool, true, false, cond}
 use mathlib.Core.List.{List, [], _∷_, _++_, append-assoc, append-nil}
-use mathlib.Core.Option.{Option, none, some}
+use mathlib.Core.Option.{none, some}
 use Prim.Native.Nat.{ℕ, zero, suc, _+_, _*_, _<_, _≤_}
 use native.Mathlib.Omega.{arith}
 use native.Mathlib.Numerals.{add-one}
-use native.Mathlib.Nat.{zero-add, suc-mul, zero-mul, add-assoc, add-comm, not-suc-le-zero, le-of-suc-le-suc}
+use native.Mathlib.Nat.{zero-add, suc-mul, zero-mul, add-comm, not-suc-le-zero, le-of-suc-le-suc}
 use lib.Dec.{T}
 use lib.ListN.{length, getD, set, drop, length-append}
-use lib.Seq.{sets, sets-eq, length-sets, drop-nil}
+use lib.Seq.{sets, sets-eq}
 use Rattle.laws.specs.Lists.{listFrom, listOf, copies, count, find}
-use Rattle.laws.specs.Tables.{both, every}
+use Rattle.laws.specs.Tables.{every}
 use Rattle.laws.proofs.Tables.{both-left, both-right}
 
 module _ {ℓ} {A : Type ℓ} where

@@ -1,7 +1,7 @@
 -- From what the callees leave to a frame, its words and its bits; and that there is one frame only.
 -- Assumes nothing.
 use mathlib.Core.Path.{_≡_, refl, sym, ap, ap₂, _∙_, subst}
-use mathlib.Core.Bool.{Bool}
+use mathlib.Core.Bool.{Bool, cond}
 use mathlib.Core.List.{List, _++_, append-assoc}
 use Prim.Native.Nat.{ℕ, _+_, _*_, _/_, _<_, _≤_}
 use native.Mathlib.Omega.{arith}
@@ -13,8 +13,8 @@ use lib.Ieee.{Float}
 use Rattle.en300401.specs.Dispersal.{disperse}
 use Rattle.en300401.specs.Trellis.{Ends}
 use Rattle.en300401.proofs.Dispersal.{disperse-length}
-use Rattle.packing.specs.Bytes.{bytesOf, pickL, packed}
-use Rattle.quality.specs.Figures.{sumAbs, percentOf, qualityOf, pick, measured}
+use Rattle.packing.specs.Bytes.{bytesOf, packed}
+use Rattle.quality.specs.Figures.{sumAbs, percentOf, qualityOf, measured}
 use Rattle.quality.specs.declared.Measured.{Measured}
 use Rattle.quality.specs.declared.Measured.the-variants.{Is, «Refused» as not-measured}
 use Rattle.viterbi.specs.Decoders.{steps, answerOf, Decoded}
@@ -27,13 +27,13 @@ use Rattle.msc_handler.specs.Frames.{stepsOf, frameBits, Framed, FrameRo
 pack-fits : (xs out : List ℕ) (k : ℕ) → length xs / 8 ≡ k → k ≤ length out → packed xs out ≡ bytesOf xs ++ drop k out
 unfolding packed
 pack-fits xs out k e h =
-    ap (λ (b : Bool). pickL b (bytesOf xs ++ drop (length xs / 8) out) out) (le-leb (length xs / 8) (length out) (omega arith))
+    ap (λ (b : Bool). cond b (bytesOf xs ++ drop (length xs / 8) out) out) (le-leb (length xs / 8) (length out) (omega arith))
     ∙ ap (λ (m : ℕ). bytesOf xs ++ drop m out) e
 
 -- what is measured, of few enough values
 measure-fits : (m : ℤ) (xs : List ℤ) → length xs / 4 ≤ 65536 → percentIn (measured m xs) ≡ percentOf m (sumAbs xs)
 unfolding measured
-measure-fits m xs h = ap (λ (b : Bool). percentIn (pick b (Is (qualityOf m xs)) (not-measured (record { number = 11 })))) (le-leb (length xs / 4) 65536 h)
+measure-fits m xs h = ap (λ (b : Bool). percentIn (cond b (Is (qualityOf m xs)) (not-measured (record { number = 11 })))) (le-leb (length xs / 4) 65536 h)
 
 module _ {rate : ℕ} {soft : List ℤ} {words bits frame : List ℕ} (room : FrameRoom rate soft words bits frame) where
   steps-are : steps soft ≡ stepsOf rate

@@ -31,7 +31,8 @@ use Rattle.msc_handler.specs.Ring.{stored, part, inSlot, slotOf, readOut
 use Rattle.msc_handler.specs.States.{valuesOf, ringRoom, startedAt, freshState, mostFrames, due, nextChannel, nextState}
 use Rattle.msc_handler.proofs.Feeding.{Gathered, Finished, fed-refuses, fed-gathers, fed-completes, delayed-length}
 use Rattle.msc_handler.proofs.Refusals.{Accepted, accepted, set-up-room, reset-room}
-use Rattle.msc_handler.proofs.Ring.{slot-end, pasted-inside, pasted-else}
+use Rattle.laws.proofs.Pasted.{pasted-inside, pasted-else}
+use Rattle.msc_handler.proofs.Ring.{slot-end}
 use Rattle.msc_handler.proofs.States.{after-middle, after-whole}
 
 -- one symbol more leaves what was received before it, and is the next to be received

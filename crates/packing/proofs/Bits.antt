@@ -7,9 +7,8 @@ use native.Mathlib.Omega.{arith}
 use lib.ListN.{length, getD, take, drop, length-take, length-map, List·getD-map}
 use lib.Pow.{pow-mono}
 use Rattle.laws.specs.Bits.{numOf, AreBits}
-use Rattle.laws.proofs.Bits.{num-snoc, num-lt, bits-head, bits-tail}
+use Rattle.laws.proofs.Bits.{num-snoc, num-lt, below-head, below-tail}
 use Rattle.laws.proofs.Slices.{Folded}
-use Rattle.en300401.specs.Bytes.{bytesOfBits}
 use Rattle.en300401.proofs.Bytes.{bytes-length, byte-at}
 use Rattle.packing.specs.Bytes.{asBit, bytesOf}
 
@@ -26,9 +25,9 @@ bits-mapped xs = record { each = λ i l. subst (λ (v : ℕ). v < 2) (sym (List�
 pub as-bits : (xs : List ℕ) → AreBits xs → map asBit xs ≡ xs
 unfolding asBit
 as-bits [] h = refl
-as-bits (zero ∷ xs) h = ap (λ (r : List ℕ). 0 ∷ r) (as-bits xs (bits-tail h))
-as-bits (suc zero ∷ xs) h = ap (λ (r : List ℕ). 1 ∷ r) (as-bits xs (bits-tail h))
-as-bits (suc (suc x) ∷ xs) h = absurd (omega (arith, bits-head h))
+as-bits (zero ∷ xs) h = ap (λ (r : List ℕ). 0 ∷ r) (as-bits xs (below-tail h))
+as-bits (suc zero ∷ xs) h = ap (λ (r : List ℕ). 1 ∷ r) (as-bits xs (below-tail h))
+as-bits (suc (suc x) ∷ xs) h = absurd (omega (arith, below-head h))
 
 abbrev pub number : List ℕ → ℕ
 number xs = numOf (map asBit xs)

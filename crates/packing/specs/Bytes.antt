@@ -1,6 +1,5 @@
 -- Document 01, "high bit first": decoded bits as bytes.
-use mathlib.Core.Path.{_≡_}
-use mathlib.Core.Bool.{Bool, true, false}
+use mathlib.Core.Bool.{cond}
 use mathlib.Core.List.{List, map, _++_}
 use Prim.Native.Nat.{ℕ, zero, suc, _/_}
 use lib.Dec.{leb}
@@ -18,18 +17,10 @@ asBit (suc n) = 1
 unfoldable pub bytesOf : List ℕ → List ℕ
 bytesOf xs = bytesOfBits (map asBit xs)
 
-abbrev pub pickP : Bool → Packing → Packing → Packing
-pickP true a b = a
-pickP false a b = b
-
-abbrev pub pickL : Bool → List ℕ → List ℕ → List ℕ
-pickL true a b = a
-pickL false a b = b
-
 -- the answer: the number of bytes, or refusal 8 where the output has fewer places
 unfoldable pub packing : List ℕ → List ℕ → Packing
-packing xs out = pickP (leb (length xs / 8) (length out)) (Packed (length xs / 8)) (Refused (record { number = 8 }))
+packing xs out = cond (leb (length xs / 8) (length out)) (Packed (length xs / 8)) (Refused (record { number = 8 }))
 
 -- the output: the bytes, then the rest as it was; all as it was on a refusal
 unfoldable pub packed : List ℕ → List ℕ → List ℕ
-packed xs out = pickL (leb (length xs / 8) (length out)) (bytesOf xs ++ drop (length xs / 8) out) out
+packed xs out = cond (leb (length xs / 8) (length out)) (bytesOf xs ++ drop (length xs / 8) out) out

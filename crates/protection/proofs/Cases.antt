@@ -1,9 +1,9 @@
 -- Document 01, "Twelve cases proved as one table": cases 9 to 12, and the run cases of descriptions.
 -- Assumes nothing.
-use mathlib.Core.Path.{_≡_, refl, sym, ap, _∙_}
-use mathlib.Core.Bool.{Bool, true, false, cond}
-use mathlib.Core.List.{List, _++_}
-use Prim.Native.Nat.{ℕ, _+_, _<_}
+use mathlib.Core.Path.{_≡_, refl, ap}
+use mathlib.Core.Bool.{true, false, cond}
+use mathlib.Core.List.{_++_}
+use Prim.Native.Nat.{ℕ}
 use lib.Dec.{lit<}
 use Rattle.laws.specs.Lists.{find}
 use Rattle.en300401.specs.Puncturing.{keptSize}

@@ -1,8 +1,8 @@
 -- What the code holds of a profile gives the profile's sizes and its mask again.
 -- Assumes nothing.
-use mathlib.Core.Path.{_≡_, refl, sym, ap, ap₂, _∙_, subst}
-use mathlib.Core.Bool.{Bool, true, false}
-use mathlib.Core.List.{List, [], _∷_, _++_}
+use mathlib.Core.Path.{_≡_, refl, sym, ap, _∙_, subst}
+use mathlib.Core.Bool.{Bool}
+use mathlib.Core.List.{List, [], _∷_}
 use Prim.Native.Nat.{ℕ, zero, suc, _+_, _*_, _-_, _<_, _≤_}
 use native.Mathlib.Omega.{arith}
 use native.Mathlib.Nat.{zero-mul}
@@ -14,7 +14,6 @@ use Rattle.laws.proofs.Lists.{copies-zero}
 use Rattle.en300401.specs.Puncturing.{Region, regionMask, mask, keptSize, vector}
 use Rattle.en300401.proofs.Puncturing.{OkRegion, Usable, blocksIn, sentIn, in-table, length-mask, kept-size}
 use Rattle.profiles.specs.Rows.{index, regionAt}
-use Rattle.protection.specs.declared.ProtectionParams.{ProtectionParams}
 use Rattle.protection.specs.Code.{Bounded, blocksBy, sentOf, sentBy}
 use Rattle.protection.specs.Params.{paramsOf, regionsIn}
 

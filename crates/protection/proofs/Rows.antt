@@ -1,22 +1,20 @@
 -- The rows of the two kinds: which refusal is first, and what the code holds of a profile.
 -- Assumes nothing.
-use mathlib.Core.Path.{_≡_, refl, sym, ap, ap₂, _∙_, subst}
-use mathlib.Core.Bool.{Bool, true, false}
+use mathlib.Core.Path.{_≡_, refl, sym, ap, ap₂, _∙_}
+use mathlib.Core.Bool.{false}
 use mathlib.Core.List.{List, [], _∷_}
 use mathlib.Core.Option.{Option, none, some}
 use Prim.Native.Nat.{ℕ, zero, suc, _+_, _*_, _-_, _/_, _<_, _≤_}
 use native.Mathlib.Omega.{arith}
 use borrow.Author.Tests.{lt-ltb, le-ltb, ne-eqb}
-use lib.Dec.{eqb, ltb}
-use Rattle.laws.specs.Words.{pickN}
+use lib.Dec.{eqb}
 use Rattle.en300401.specs.Puncturing.{Region}
 use Rattle.en300401.specs.Eep.{unit, levelOf, first, eepProfile}
 use Rattle.en300401.specs.Uep.{Row, uepRow, regionsOf, uepProfile}
 use Rattle.en300401.proofs.Eep.{eep-usable, first-blocks}
 use Rattle.profiles.specs.declared.UepProfile.{UepProfile}
-use Rattle.profiles.specs.declared.Found.{Found}
 use Rattle.profiles.specs.declared.Found.the-variants.{«Row» as RowFound, Nothing}
-use Rattle.profiles.specs.Rows.{index, regionAt, profileRow, foundOf}
+use Rattle.profiles.specs.Rows.{index, profileRow, foundOf}
 use Rattle.refusal.specs.Outcome.{outcome, unlessRefused, check, firstOf}
 use Rattle.protection.specs.declared.EepLevel.{EepLevel}
 use Rattle.protection.specs.declared.Judged.the-variants.{«Accepted» as judged-accepted}

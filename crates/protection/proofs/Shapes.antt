@@ -1,12 +1,10 @@
 -- The refusals 5 to 7 of a profile's size, a bit rate and a place, each from its test and those before it.
 -- Assumes nothing.
-use mathlib.Core.Path.{_≡_, refl, sym, ap, _∙_}
-use mathlib.Core.Bool.{Bool, true, false, not, _||_}
+use mathlib.Core.Path.{_≡_, refl}
 use Prim.Native.Nat.{ℕ, _+_, _*_, _%_, _<_, _≤_}
 use borrow.Author.Tests.{lt-ltb, le-ltb, eq-eqb, ne-eqb}
-use lib.Dec.{ltb, eqb}
 use Rattle.en300401.specs.Eep.{unit}
-use Rattle.refusal.specs.Outcome.{check, firstOf}
+use Rattle.refusal.specs.Outcome.{firstOf}
 use Rattle.refusal.proofs.Laws.{orElse-zero}
 use Rattle.protection.specs.Refusals.{outside, eepShape, uepShape}
 

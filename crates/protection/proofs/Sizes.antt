@@ -1,14 +1,14 @@
 -- What a lookup's promise says in its two cases.
 -- Assumes nothing.
-use mathlib.Core.Path.{_≡_, refl, sym, ap, _∙_, subst}
+use mathlib.Core.Path.{_≡_, sym, ap, _∙_, subst}
 use mathlib.Core.Bool.{Bool, true, false, cond}
 use mathlib.Core.List.{List, []}
-use Prim.Native.Nat.{ℕ, zero, suc, _<_}
+use Prim.Native.Nat.{ℕ, _<_}
 use Rattle.en300401.specs.Puncturing.{Region, keptSize}
 use Rattle.en300401.proofs.Puncturing.{Usable}
 use Rattle.refusal.specs.declared.Refusal.{Refusal}
-use Rattle.refusal.specs.Outcome.{Outcome, gives, refuses, outcome, unlessRefused, orElse, firstOf}
-use Rattle.refusal.proofs.Laws.{refused-number, given-number, given-value, still-refused, first-refused}
+use Rattle.refusal.specs.Outcome.{gives, outcome, unlessRefused, orElse, firstOf}
+use Rattle.refusal.proofs.Laws.{given-number, given-value, still-refused, first-refused}
 use Rattle.protection.specs.declared.Description.{Description}
 use Rattle.protection.specs.declared.Judged.{Judged}
 use Rattle.protection.specs.declared.Judged.the-variants.{«Accepted» as judged-accepted, «Refused» as judged-refused}
@@ -20,6 +20,7 @@ use Rattle.protection.specs.Code.{Bounded}
 use Rattle.protection.specs.Params.{paramsOf}
 use Rattle.protection.specs.Promises.{JudgePromise, RowPromise, SizePromise}
 use Rattle.protection.specs.Refusals.{profileOf, rowRefusalOf, refusalOf, eepShape, uepShape, shapeRefusals}
+use Rattle.protection.proofs.Params.{params-bounded}
 use Rattle.protection.proofs.Profiles.{profile-usable, refusal-split}
 
 -- an answer that accepts has number 0
@@ -37,6 +38,9 @@ module _ (d : Description) {r : Lookup} (p : RowPromise (rowRefusalOf d) (profil
 
     pub row-usable : d .bitrate < 65536 → Usable (profileOf d)
     row-usable h = profile-usable d h row-none
+
+    pub row-bounded : d .bitrate < 65536 → Bounded (r .params)
+    row-bounded h = subst Bounded (sym row-params) (params-bounded (profileOf d) (row-usable h))
 
     -- a size of the params that is the profile's
     pub size-given : (size : List Region → ℕ) (n : ℕ) → n ≡ size (profileOf d) → SizePromise size d (Values n)

@@ -5,7 +5,6 @@ use mathlib.Core.List.{List}
 use Prim.Native.Nat.{ℕ}
 use native.Mathlib.Omega.{arith}
 use Rattle.en300401.specs.Puncturing.{Region}
-use Rattle.refusal.specs.Outcome.{Outcome, gives, refuses}
 use Rattle.protection.specs.declared.Description.{Description}
 use Rattle.protection.specs.declared.Judged.{Judged}
 use Rattle.protection.specs.declared.Judged.the-variants.{«Accepted» as judged-accepted, «Refused» as judged-refused}

@@ -5,9 +5,12 @@ use Rattle.en300401.specs.Eep.{levelOf}
 use Rattle.protection.specs.declared.EepLevel.{EepLevel}
 use Rattle.protection.specs.declared.ProtectionParams.{ProtectionParams}
 
+abbrev pub levelBy : ℕ → ℕ → ℕ → ℕ → EepLevel
+levelBy f1 f2 p1 p2 = record { fold1 = f1; fold2 = f2; pi1 = p1; pi2 = p2 }
+
 -- a level's row with `pi` counted from 0
 unfoldable pub levelRow : ℕ → ℕ → EepLevel
-levelRow o l = record { fold1 = levelOf o l .fold1; fold2 = levelOf o l .fold2; pi1 = levelOf o l .pi1 - 1; pi2 = levelOf o l .pi2 - 1 }
+levelRow o l = levelBy (levelOf o l .fold1) (levelOf o l .fold2) (levelOf o l .pi1 - 1) (levelOf o l .pi2 - 1)
 
 -- numbers that no sum or product of the sizes overflows with
 pub record Bounded (p : ProtectionParams) : Type 0 where

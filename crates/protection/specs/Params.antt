@@ -1,6 +1,6 @@
 -- Document 01, "Forms that change": `ProtectionParams`, the blocks and the `pi` of four regions, counted from 0; 24, none of the 24, where a region is empty.
 use mathlib.Core.List.{List, [], _∷_}
-use Prim.Native.Nat.{ℕ, _+_, _*_}
+use Prim.Native.Nat.{ℕ, _+_}
 use lib.ListN.{getD}
 use Rattle.en300401.specs.Puncturing.{Region}
 use Rattle.profiles.specs.Rows.{index, regionAt}

@@ -7,7 +7,7 @@ ghost use Rattle.en300401.specs.Eep.{unit, eepProfile};
 ghost use Rattle.en300401.specs.Uep.{uepProfile};
 ghost use Rattle.refusal.specs.Outcome.{outcome, firstOf};
 ghost use Rattle.protection.specs.Answers.{judgedAs};
-ghost use Rattle.protection.specs.Code.{levelRow, Bounded, blocksBy, sentOf, sentBy};
+ghost use Rattle.protection.specs.Code.{levelBy, levelRow, Bounded, blocksBy, sentOf, sentBy};
 ghost use Rattle.protection.specs.Params.{paramsOf};
 ghost use Rattle.protection.specs.Promises.{motherSize, JudgePromise, RowPromise, SizePromise};
 ghost use Rattle.protection.specs.Refusals.{profileOf, rowRefusalOf, eepRow, uepNone, outside, eepShape, uepShape};
@@ -60,63 +60,35 @@ fn refused(number: u8) -> Judged
     Judged::Refused(Refusal { number: number })
 }
 
+fn level_of(fold1: usize, fold2: usize, pi1: usize, pi2: usize) -> EepLevel
+    ensures { λ r. ⌜ r ≡ levelBy fold1 fold2 pi1 pi2 ⌝ }
+{
+    EepLevel {
+        fold1,
+        fold2,
+        pi1,
+        pi2,
+    }
+}
+
+// 1-A to 4-A, 1-B to 4-B.
 fn eep_level(option: u8, level: u8) -> EepLevel
     requires { ⌜ (option ≤ 1) × (level ≤ 3) ⌝ }
     ensures { λ r. ⌜ r ≡ levelRow option level ⌝ }
 {
     if option == 0 {
         match level {
-            0 => EepLevel {
-                fold1: 6,
-                fold2: 0,
-                pi1: 23,
-                pi2: 22,
-            },
-            1 => EepLevel {
-                fold1: 2,
-                fold2: 4,
-                pi1: 13,
-                pi2: 12,
-            },
-            2 => EepLevel {
-                fold1: 6,
-                fold2: 0,
-                pi1: 7,
-                pi2: 6,
-            },
-            _ => EepLevel {
-                fold1: 4,
-                fold2: 2,
-                pi1: 2,
-                pi2: 1,
-            },
+            0 => level_of(6, 0, 23, 22),
+            1 => level_of(2, 4, 13, 12),
+            2 => level_of(6, 0, 7, 6),
+            _ => level_of(4, 2, 2, 1),
         }
     } else {
         match level {
-            0 => EepLevel {
-                fold1: 24,
-                fold2: 0,
-                pi1: 9,
-                pi2: 8,
-            },
-            1 => EepLevel {
-                fold1: 24,
-                fold2: 0,
-                pi1: 5,
-                pi2: 4,
-            },
-            2 => EepLevel {
-                fold1: 24,
-                fold2: 0,
-                pi1: 3,
-                pi2: 2,
-            },
-            _ => EepLevel {
-                fold1: 24,
-                fold2: 0,
-                pi1: 1,
-                pi2: 0,
-            },
+            0 => level_of(24, 0, 9, 8),
+            1 => level_of(24, 0, 5, 4),
+            2 => level_of(24, 0, 3, 2),
+            _ => level_of(24, 0, 1, 0),
         }
     }
 }

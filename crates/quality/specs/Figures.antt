@@ -1,6 +1,5 @@
 -- Document 01, "Quality": metric, sum of absolute depunctured values, and percentage.
-use mathlib.Core.Path.{_≡_}
-use mathlib.Core.Bool.{Bool, true, false}
+use mathlib.Core.Bool.{false, cond}
 use mathlib.Core.List.{List, [], _∷_}
 use Prim.Native.Nat.{ℕ, zero, suc, _+_, _/_}
 use lib.Dec.{leb}
@@ -26,12 +25,8 @@ abbrev pub qualityOf : ℤ → List ℤ → Quality
 qualityOf m xs = record { metric = m; sum = pos (sumAbs xs); percent = percentOf m (sumAbs xs) }
 
 -- the answer: refusal 11 above 65,536 whole steps, else the record
-abbrev pub pick : Bool → Measured → Measured → Measured
-pick true a b = a
-pick false a b = b
-
 unfoldable pub measured : ℤ → List ℤ → Measured
-measured m xs = pick (leb (length xs / 4) 65536) (Is (qualityOf m xs)) (Refused (record { number = 11 }))
+measured m xs = cond (leb (length xs / 4) 65536) (Is (qualityOf m xs)) (Refused (record { number = 11 }))
 
 -- the record of an absent block
 abbrev pub nothing : Quality

@@ -4,7 +4,7 @@ use mathlib.Core.Path.{_≡_, refl, ap, _∙_}
 use mathlib.Core.List.{List, [], _∷_, _++_}
 use Prim.Native.Nat.{ℕ, zero, suc}
 use native.Mathlib.Omega.{arith}
-use Rattle.refusal.specs.Outcome.{Outcome, gives, refuses, outcome, orElse, firstOf}
+use Rattle.refusal.specs.Outcome.{gives, refuses, outcome, orElse, firstOf}
 
 pub orElse-assoc : (k m n : ℕ) → orElse (orElse k m) n ≡ orElse k (orElse m n)
 orElse-assoc zero m n = refl

@@ -1,6 +1,6 @@
 -- Document 01, "viterbi.rs" and its table of refusals: what a decoder answers, and what the lent words and bits hold after it.
 use mathlib.Core.Path.{_≡_}
-use mathlib.Core.Bool.{Bool, true, false}
+use mathlib.Core.Bool.{Bool, true, false, cond}
 use mathlib.Core.List.{List, _∷_, _++_, map, reverse}
 use mathlib.Core.Option.{Option, none, some}
 use Prim.Native.Nat.{ℕ, suc, _+_, _*_, _/_, _%_, _^_, _<_, min}
@@ -15,14 +15,9 @@ use Rattle.viterbi.specs.declared.Decoding.the-variants.{Done, Refused}
 abbrev pub steps : List ℤ → ℕ
 steps xs = length xs / 4
 
--- the first where the flag holds, else the second
-abbrev pub pickO : Bool → Option ℕ → Option ℕ → Option ℕ
-pickO true a b = a
-pickO false a b = b
-
 -- the refusal of a call with n steps: 11 above 65,536 steps, then 8 where the words or the bits have fewer places than steps
 unfoldable pub refusal : ℕ → ℕ → ℕ → Option ℕ
-refusal n words bits = pickO (ltb 65536 n) (some 11) (pickO (ltb (min words bits) n) (some 8) none)
+refusal n words bits = cond (ltb 65536 n) (some 11) (cond (ltb (min words bits) n) (some 8) none)
 
 -- an answer: done, with its metric, or refused, with document 01's number
 pub data Answer : Type 0 where

@@ -14,7 +14,7 @@ use Rattle.laws.specs.Bits.{AreBits, numOf}
 use Rattle.en300401.specs.Crc.{crcFrom, crcWord, fibValid}
 use Rattle.crc.specs.Tests.{allBits, bitTest}
 use Rattle.crc.proofs.Agree.{bit-is, no-bits, not-256}
-use Rattle.laws.proofs.Bits.{bits-take, bits-drop}
+use Rattle.laws.proofs.Bits.{below-take, below-drop}
 use Rattle.crc.proofs.Bits.{all-are}
 use Rattle.crc.proofs.check_crc_bits.Statement.{statement}
 use Rattle.crc.proofs.check_crc_bits.Tie as tie
@@ -46,7 +46,7 @@ part-crc-bits-end : tie.Need-part-crc-bits-end
 part-crc-bits-end c = search needs
 
 crc-bits-requires : tie.Need-crc-bits-requires
-crc-bits-requires c κs = bits-take 240 (bits-here (c .before .if2 .left) (c .before .before .are-bits .ensures))
+crc-bits-requires c κs = below-take 240 (bits-here (c .before .if2 .left) (c .before .before .are-bits .ensures))
 
 sub-word : tie.Need-sub-word
 sub-word c = search needs
@@ -62,7 +62,7 @@ part-word-of-end c = search needs
 
 word-of-requires : tie.Need-word-of-requires
 word-of-requires c κs =
-    (simp (length-take, length-drop) (omega arith), bits-take 16 (bits-drop 240 (bits-here (c .before .before .before .if2 .left) (c .before .before .before .before .are-bits .ensures))))
+    (simp (length-take, length-drop) (omega arith), below-take 16 (below-drop 240 (bits-here (c .before .before .before .if2 .left) (c .before .before .before .before .are-bits .ensures))))
 
 returns-3 : tie.Need-returns-3
 returns-3 c =

@@ -1,10 +1,9 @@
 -- `crc::crc_bits` meets its contract: the register is that of the bits passed.
 -- Assumes nothing.
-use mathlib.Core.Path.{_≡_, refl, sym, ap, subst, _∙_}
-use mathlib.Core.List.{List}
-use Prim.Native.Nat.{ℕ, _+_, _*_, _-_, _≤_, _<_}
+use mathlib.Core.Path.{refl, sym, ap, subst, _∙_}
+use Prim.Native.Nat.{ℕ, _-_, _<_}
 use native.Mathlib.Omega.{arith}
-use lib.ListN.{length, getD, take}
+use lib.ListN.{length}
 use Rattle.laws.proofs.Slices.{Folded, folded-next, folded-all}
 use Rattle.en300401.specs.Crc.{crcStep, crcFrom}
 use Rattle.en300401.proofs.Crc.{from-snoc}

@@ -1,10 +1,10 @@
 -- `crc::crc_bytes` meets its contract: the register is that of the bytes passed.
 -- Assumes nothing.
-use mathlib.Core.Path.{_≡_, refl}
+use mathlib.Core.Path.{refl}
 use mathlib.Core.List.{List}
-use Prim.Native.Nat.{ℕ, _+_, _*_, _-_, _≤_, _<_}
+use Prim.Native.Nat.{ℕ, _-_}
 use native.Mathlib.Omega.{arith}
-use lib.ListN.{length, getD, take}
+use lib.ListN.{length}
 use Rattle.laws.specs.Bits.{bitsOf}
 use Rattle.laws.proofs.Slices.{Folded, folded-next, folded-all}
 use Rattle.en300401.specs.Bytes.{bitsOfBytes}

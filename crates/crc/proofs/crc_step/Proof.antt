@@ -2,7 +2,7 @@
 -- Assumes nothing.
 use borrow.Author.Needs.{needs}
 use mathlib.Core.Path.{_≡_, ap}
-use Prim.Native.Nat.{ℕ, _*_, _/_, _%_, _^_, _+_, _<_}
+use Prim.Native.Nat.{ℕ, _*_, _/_, _%_, _^_, _+_}
 use native.Mathlib.Omega.{arith}
 use lib.Bits.{bitXor}
 use Rattle.en300401.specs.Crc.{crcStep}

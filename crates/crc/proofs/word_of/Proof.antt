@@ -1,21 +1,21 @@
 -- `crc::word_of` meets its contract: the word is the number of the bits passed, below 2 to their count.
 -- Assumes nothing.
-use mathlib.Core.Path.{_≡_, refl, sym, ap, subst, _∙_}
+use mathlib.Core.Path.{refl}
 use mathlib.Core.List.{List}
 use Prim.Native.Nat.{ℕ, _+_, _*_, _-_, _^_, _≤_, _<_}
 use native.Mathlib.Omega.{arith}
-use lib.ListN.{length, getD, take, length-take}
+use lib.ListN.{length, take, length-take}
 use lib.Pow.{pow-mono}
 use Rattle.laws.specs.Bits.{numOf, AreBits}
 use Rattle.laws.proofs.Slices.{Folded, folded-next, folded-all}
-use Rattle.laws.proofs.Bits.{bits-take, num-snoc, num-lt}
+use Rattle.laws.proofs.Bits.{below-take, num-snoc, num-lt}
 use Rattle.crc.proofs.word_of.Statement.{statement}
 use Rattle.crc.proofs.word_of.Tie as tie
 
 -- fewer than 16 bits passed
 small : {bits : List ℕ} {i word : ℕ} → AreBits bits → i < 16 → Folded 0 numOf bits i word → word < 2 ^ 15
 small {bits} {i} {word} h l v =
-    let a = num-lt (take i bits) (bits-take i h) in
+    let a = num-lt (take i bits) (below-take i h) in
     let b : 2 ^ length (take i bits) ≤ 2 ^ 15 = pow-mono {j = 15} (omega (arith, length-take i bits)) in
     omega (arith, v .is)
 

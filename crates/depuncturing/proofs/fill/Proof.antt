@@ -1,14 +1,14 @@
 -- `depuncturing::fill` meets its contract. The loop's invariant: the places passed hold what is depunctured under the flags passed.
 -- Assumes nothing.
-use mathlib.Core.Path.{_≡_, refl, sym, ap, _∙_, subst}
-use mathlib.Core.List.{List, _++_}
+use mathlib.Core.Path.{_≡_, sym, ap}
+use mathlib.Core.List.{List}
 use Prim.Native.Nat.{ℕ, _+_, _-_, _<_, _≤_, _^_}
 use native.Mathlib.Omega.{arith}
-use lib.ListN.{length, getD, take, set}
+use lib.ListN.{length, getD, take}
 use lib.Seq.{take-all}
-use lib.IntN.{ℤ, pos}
+use lib.IntN.{ℤ}
 use mir.Syntax.{w8}
-use Rattle.laws.specs.Integers.{at, pickZ}
+use Rattle.laws.specs.Integers.{at}
 use Rattle.laws.proofs.Machine.{back}
 use Rattle.depuncturing.specs.Code.{flag, flags, Runs}
 use Rattle.depuncturing.proofs.Fills.{runs-none, runs-one, runs-append, runs-length, runs-used, flags-next, length-flags}

@@ -1,14 +1,12 @@
 -- `depuncturing::fill_profile` meets its contract: region after region, and then the tail.
 -- Assumes nothing.
-use mathlib.Core.Path.{_≡_, refl, sym, ap, _∙_, subst}
-use mathlib.Core.List.{List, _++_}
-use Prim.Native.Nat.{ℕ, _+_, _*_, _<_, _≤_}
+use mathlib.Core.Path.{_≡_, ap, _∙_}
+use Prim.Native.Nat.{_+_, _*_}
 use native.Mathlib.Omega.{arith}
-use lib.ListN.{length, getD}
-use lib.Seq.{sets}
-use Rattle.en300401.specs.Puncturing.{tailMask, depuncture}
+use lib.ListN.{getD}
+use Rattle.en300401.specs.Puncturing.{tailMask}
 use Rattle.en300401.proofs.Puncturing.{length-tail}
-use Rattle.depuncturing.specs.Code.{flags, Runs}
+use Rattle.depuncturing.specs.Code.{flags}
 use Rattle.depuncturing.proofs.Fills.{Upto, upto-first, upto-used, upto-length, upto-next, upto-region, masks1, masks2, masks3, masks4, masks-all, flags-of-bits}
 use borrow.Author.Needs.{needs}
 use Rattle.depuncturing.proofs.fill_profile.Statement.{statement}

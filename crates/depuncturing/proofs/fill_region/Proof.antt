@@ -1,11 +1,9 @@
 -- `depuncturing::fill_region` meets its contract. The loop's invariant: the sub-blocks passed hold what is depunctured under as many copies of the vector.
 -- Assumes nothing.
-use mathlib.Core.Path.{_≡_, refl, sym, ap, _∙_, subst}
-use mathlib.Core.Bool.{Bool}
-use mathlib.Core.List.{List, []}
+use mathlib.Core.Path.{_≡_, refl, sym, ap, _∙_}
+use mathlib.Core.List.{List}
 use Prim.Native.Nat.{ℕ, _+_, _*_, _-_, _<_, _≤_, _^_}
 use native.Mathlib.Omega.{arith}
-use native.Mathlib.Nat.{mul-comm}
 use borrow.Author.Needs.{needs}
 use borrow.Author.Tests.{lt-ltb}
 use lib.ListN.{length}
@@ -14,7 +12,7 @@ use Rattle.laws.specs.Lists.{copies}
 use Rattle.laws.proofs.Lists.{copies-zero, copies-next, length-copies}
 use Rattle.en300401.specs.Puncturing.{vector, regionMask}
 use Rattle.en300401.proofs.Puncturing.{length-vector}
-use Rattle.profiles.specs.Rows.{vectorAt, bits}
+use Rattle.profiles.specs.Rows.{vectorAt}
 use Rattle.depuncturing.specs.Code.{flags, Runs}
 use Rattle.depuncturing.proofs.Fills.{runs-none, runs-append, runs-length, runs-used, flags-of-bits}
 use Rattle.depuncturing.proofs.fill_region.Statement.{statement}

@@ -10,7 +10,7 @@ use lib.ListN.{length, getD, set, length-set}
 use lib.Seq.{ext-getD}
 use Rattle.laws.proofs.Slices.{Changed, changed-none, changed-next}
 use Rattle.en300401.specs.Dispersal.{prbs, disperse}
-use Rattle.en300401.proofs.Dispersal.{registerAt, register-start, register-lt, register-bit, register-next, prbs-lt, disperse-length, disperse-at}
+use Rattle.en300401.proofs.Dispersal.{registerAt, register-start, register-lt, register-bit, register-next, disperse-length, disperse-at}
 use Rattle.energy_dispersal.proofs.energy_dispersal.Statement.{statement}
 use Rattle.energy_dispersal.proofs.energy_dispersal.Tie as tie
 use Rattle.energy_dispersal.proofs.energy_dispersal.Reads as reads

@@ -1,12 +1,12 @@
 -- `fic_handler::gather` meets its contract: the first i values are in place.
 -- Assumes nothing.
-use mathlib.Core.Path.{_≡_, refl, sym, ap, _∙_, subst}
-use mathlib.Core.List.{List, _++_}
+use mathlib.Core.Path.{_≡_, sym, _∙_}
+use mathlib.Core.List.{List}
 use Prim.Native.Nat.{ℕ, _+_, _-_, _≤_, _<_}
 use native.Mathlib.Omega.{arith}
 use native.Mathlib.Nat.{not-suc-le-zero}
 use lib.IntN.{ℤ, pos}
-use lib.ListN.{length, getD, set, take, drop, length-set, length-append, length-take, length-drop}
+use lib.ListN.{length, take, drop, length-set, length-append, length-take, length-drop}
 use lib.Seq.{ext-getD, getD-take, getD-drop}
 use mir.Syntax.{w8}
 use Rattle.laws.specs.Integers.{at}

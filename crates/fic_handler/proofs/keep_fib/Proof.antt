@@ -2,7 +2,7 @@
 -- Assumes nothing.
 use borrow.Author.Needs.{needs}
 use mathlib.Core.Path.{_≡_, refl, sym, ap, _∙_}
-use mathlib.Core.Bool.{Bool, true, false}
+use mathlib.Core.Bool.{Bool, true, false, cond}
 use mathlib.Core.List.{List, _++_}
 use Prim.Native.Nat.{ℕ}
 use borrow.Author.Tests.{not-true, not-false}
@@ -13,7 +13,7 @@ use Rattle.en300401.specs.Bytes.{bytesOfBits}
 use Rattle.en300401.specs.Crc.{fibValid}
 use Rattle.crc.specs.Tests.{bitTest}
 use Rattle.crc.proofs.Agree.{bit-is}
-use Rattle.fic_handler.specs.Blocks.{pickL, KeptFib}
+use Rattle.fic_handler.specs.Blocks.{KeptFib}
 use Rattle.fic_handler.proofs.keep_fib.Statement.{statement}
 use Rattle.fic_handler.proofs.keep_fib.Tie as tie
 
@@ -21,8 +21,8 @@ module _ (bits out : List ℕ) {r t : Bool} (e : length bits ≡ 256) (h : AreBi
   valid : fibValid bits ≡ t
   valid = sym (test ∙ bit-is bits e h) ∙ is
 
-  made : {k : ℕ} {new : List ℕ} → k ≡ pickN t 1 0 → new ≡ pickL t (bytesOfBits bits ++ drop 32 out) out → KeptFib bits out k new
-  made p q = record { kept-is = p ∙ ap (λ (b : Bool). pickN b 1 0) (sym valid); bytes = q ∙ ap (λ (b : Bool). pickL b (bytesOfBits bits ++ drop 32 out) out) (sym valid) }
+  made : {k : ℕ} {new : List ℕ} → k ≡ pickN t 1 0 → new ≡ cond t (bytesOfBits bits ++ drop 32 out) out → KeptFib bits out k new
+  made p q = record { kept-is = p ∙ ap (λ (b : Bool). pickN b 1 0) (sym valid); bytes = q ∙ ap (λ (b : Bool). cond b (bytesOfBits bits ++ drop 32 out) out) (sym valid) }
 
 check-crc-bits-requires : tie.Need-check-crc-bits-requires
 check-crc-bits-requires c κs = search needs

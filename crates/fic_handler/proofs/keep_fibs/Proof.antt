@@ -1,14 +1,13 @@
 -- `fic_handler::keep_fibs` meets its contract: the FIBs tested so far are kept.
 -- Assumes nothing.
-use mathlib.Core.Path.{_≡_, refl, sym, ap, _∙_, subst, subst₂}
-use mathlib.Core.List.{List, _++_}
+use mathlib.Core.Path.{_≡_, refl, sym, _∙_, subst, subst₂}
+use mathlib.Core.List.{List}
 use Prim.Native.Nat.{ℕ, _+_, _*_, _-_, _≤_, _<_}
 use native.Mathlib.Omega.{arith}
 use borrow.Author.Needs.{needs}
 use borrow.Rule.Slice.PartMut.{putMid, same-len-mid}
-use lib.ListN.{length, take, drop, length-append, length-drop, length-take}
-use Rattle.laws.specs.Bits.{AreBits}
-use Rattle.laws.proofs.Bits.{bits-take, bits-drop}
+use lib.ListN.{length, take, drop, length-drop, length-take}
+use Rattle.laws.proofs.Bits.{below-take, below-drop}
 use Rattle.laws.proofs.Slices.{tail-part, tail-put, size-of-part}
 use Rattle.fic_handler.specs.Blocks.{KeptFib, KeptFibs, fibOf, passed, countOf}
 use Rattle.fic_handler.proofs.Fibs.{count-le, kept-lt, kept-next}
@@ -79,7 +78,7 @@ keep-fib-requires c κs =
     let turn = c .before .before .before in
     let start = turn .before .before .before in
     let v = turn .loop .inv in
-    ((simp (length-take, length-drop) (omega arith), simp (length-take, length-drop) (omega (arith, few v, v .long))), bits-take (256 * turn .loop .j + 256 - 256 * turn .loop .j) (bits-drop (256 * turn .loop .j) (start .pre .1)))
+    ((simp (length-take, length-drop) (omega arith), simp (length-take, length-drop) (omega (arith, few v, v .long))), below-take (256 * turn .loop .j + 256 - 256 * turn .loop .j) (below-drop (256 * turn .loop .j) (start .pre .1)))
 
 add-kept : tie.Need-add-kept Inv-loop μ-loop
 add-kept c = omega (arith, few (c .before .before .before .before .before .before .loop .inv), kept-lt (c .before .before .keep-fib .ensures))

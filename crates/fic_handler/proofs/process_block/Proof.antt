@@ -1,9 +1,7 @@
 -- `fic_handler::process_block` meets its contract: what its three steps leave, put together.
 -- Assumes nothing.
 use borrow.Author.Needs.{needs}
-use mathlib.Core.Path.{_≡_, sym, ap, _∙_, subst}
-use mathlib.Core.List.{List}
-use Prim.Native.Nat.{ℕ}
+use mathlib.Core.Path.{sym, ap, _∙_, subst}
 use lib.ListN.{length}
 use Rattle.laws.specs.Bits.{AreBits}
 use Rattle.fic_handler.specs.Blocks.{lent}

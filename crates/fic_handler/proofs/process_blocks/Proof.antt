@@ -11,7 +11,7 @@ use lib.ListN.{length, set, take, drop, length-append, length-take, length-drop}
 use Rattle.laws.specs.Lists.{listFrom}
 use Rattle.laws.proofs.Slices.{tail-part, tail-put}
 use Rattle.quality.specs.declared.Quality.{Quality}
-use Rattle.fic_handler.specs.Blocks.{joined, blockOf, dataBits, countOf, written, BlockProcessed, Lent, lent}
+use Rattle.fic_handler.specs.Blocks.{joined, blockOf, dataBits, written, BlockProcessed, Lent, lent}
 use Rattle.fic_handler.specs.Promise.{Room, Processed}
 use Rattle.fic_handler.proofs.Run.{Run, run-none, run-next, behind}
 use Rattle.fic_handler.proofs.Fibs.{count-le}

@@ -1,27 +1,25 @@
 -- `fic_handler::quality_of` meets its contract: 774 steps are not too many.
 -- Assumes nothing.
 use borrow.Author.Needs.{needs}
-use mathlib.Core.Path.{_≡_, sym, ap, _∙_}
-use mathlib.Core.Bool.{Bool}
+use mathlib.Core.Path.{_≡_, ap, _∙_}
+use mathlib.Core.Bool.{cond}
 use mathlib.Core.List.{List}
-use Prim.Native.Nat.{ℕ, _/_, _≤_}
+use Prim.Native.Nat.{ℕ, _/_}
 use native.Mathlib.Omega.{arith}
-use borrow.Author.Tests.{le-leb}
 use lib.Dec.{leb}
 use lib.IntN.{ℤ}
 use lib.ListN.{length}
 use mir.Facts.{toZ-ofZ}
-use Rattle.quality.specs.declared.Quality.{Quality}
 use Rattle.quality.specs.declared.Measured.{Measured}
 use Rattle.quality.specs.declared.Measured.the-variants.{Is, Refused}
-use Rattle.quality.specs.Figures.{qualityOf, pick, measured}
+use Rattle.quality.specs.Figures.{qualityOf, measured}
 use Rattle.fic_handler.proofs.quality_of.Statement.{statement}
 use Rattle.fic_handler.proofs.quality_of.Tie as tie
 
 -- the record, whatever the answer: it is no refusal
 found : (m : ℤ) (xs : List ℤ) (a : Measured) → length xs ≡ 3096 → a ≡ measured m xs → a ≡ Is (qualityOf m xs)
 unfolding measured
-found m xs a e r = r ∙ ap (λ (n : ℕ). pick (leb (n / 4) 65536) (Is (qualityOf m xs)) (Refused (record { number = 11 }))) e
+found m xs a e r = r ∙ ap (λ (n : ℕ). cond (leb (n / 4) 65536) (Is (qualityOf m xs)) (Refused (record { number = 11 }))) e
 
 measure-requires : tie.Need-measure-requires
 measure-requires c κs = search needs

@@ -1,17 +1,16 @@
 -- `fic_handler::value` meets its contract, by which symbol the place falls in.
 -- Assumes nothing.
 use borrow.Author.Needs.{needs}
-use mathlib.Core.Path.{_≡_, refl, sym, ap, _∙_}
+use mathlib.Core.Path.{_≡_, sym, ap, _∙_}
 use mathlib.Core.List.{List, _++_}
-use Prim.Native.Nat.{ℕ, _+_, _-_, _<_, _≤_}
+use Prim.Native.Nat.{ℕ, _+_, _-_, _≤_}
 use native.Mathlib.Omega.{arith}
 use lib.IntN.{ℤ, pos}
-use lib.ListN.{length, getD, List·getD-append}
+use lib.ListN.{length, List·getD-append}
 use lib.Seq.{getD-append-add}
 use mir.Syntax.{w8}
 use Rattle.laws.specs.Integers.{at}
 use Rattle.laws.proofs.Machine.{back}
-use Rattle.fic_handler.specs.Blocks.{joined}
 use Rattle.fic_handler.proofs.value.Statement.{statement}
 use Rattle.fic_handler.proofs.value.Tie as tie
 

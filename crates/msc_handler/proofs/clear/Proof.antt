@@ -8,7 +8,7 @@ use native.Mathlib.Nat.{zero-add}
 use lib.IntN.{ℤ, pos}
 use lib.ListN.{length, set, replicate, length-replicate, getD-replicate}
 use lib.Seq.{paste, paste-zero, length-paste}
-use Rattle.msc_handler.proofs.Ring.{pasted-next, pasted-all}
+use Rattle.laws.proofs.Pasted.{pasted-next, pasted-all}
 use Rattle.msc_handler.proofs.clear.Statement.{statement}
 use Rattle.msc_handler.proofs.clear.Tie as tie
 

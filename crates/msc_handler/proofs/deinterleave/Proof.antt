@@ -15,7 +15,8 @@ use Rattle.laws.proofs.Machine.{back}
 use Rattle.laws.proofs.Slices.{filled}
 use Rattle.en300401.specs.Interleaving.{delays}
 use Rattle.msc_handler.specs.Ring.{inSlot, slotOf, readOut, refilled}
-use Rattle.msc_handler.proofs.Ring.{slot-end, apart, pasted-next, pasted-else}
+use Rattle.laws.proofs.Pasted.{pasted-next, pasted-else}
+use Rattle.msc_handler.proofs.Ring.{slot-end, apart}
 use Rattle.msc_handler.proofs.deinterleave.Statement.{statement}
 use Rattle.msc_handler.proofs.deinterleave.Tie as tie
 use Rattle.msc_handler.proofs.deinterleave.Reads as reads

@@ -9,7 +9,7 @@ use lib.ListN.{length, getD, set}
 use lib.Seq.{paste, paste-zero, length-paste}
 use mir.Syntax.{w8}
 use Rattle.laws.proofs.Machine.{back}
-use Rattle.msc_handler.proofs.Ring.{pasted-next}
+use Rattle.laws.proofs.Pasted.{pasted-next}
 use Rattle.msc_handler.proofs.store.Statement.{statement}
 use Rattle.msc_handler.proofs.store.Tie as tie
 

@@ -2,16 +2,15 @@
 -- Assumes nothing.
 use borrow.Author.Needs.{needs}
 use mathlib.Core.Path.{_≡_, sym, ap, ap₂, _∙_}
-use mathlib.Core.Bool.{Bool}
+use mathlib.Core.Bool.{Bool, cond}
 use mathlib.Core.List.{List, _++_}
 use Prim.Native.Nat.{ℕ, _/_, _≤_, _<_}
 use native.Mathlib.Omega.{arith}
 use borrow.Author.Tests.{le-leb, lt-leb}
 use borrow.Rule.Slice.PartMut.{post-is}
 use lib.ListN.{length, drop}
-use Rattle.packing.specs.declared.Packing.{Packing}
 use Rattle.packing.specs.declared.Packing.the-variants.{Packed, Refused}
-use Rattle.packing.specs.Bytes.{bytesOf, pickP, pickL, packing, packed}
+use Rattle.packing.specs.Bytes.{bytesOf, packing, packed}
 use Rattle.packing.proofs.pack.Statement.{statement}
 use Rattle.packing.proofs.pack.Tie as tie
 
@@ -19,13 +18,13 @@ refused : (xs out : List ℕ) → length out < length xs / 8 → (Refused (recor
 unfolding packing packed
 refused xs out h =
     let t = lt-leb (length xs / 8) (length out) h in
-    (sym (ap (λ (b : Bool). pickP b (Packed (length xs / 8)) (Refused (record { number = 8 }))) t), sym (ap (λ (b : Bool). pickL b (bytesOf xs ++ drop (length xs / 8) out) out) t))
+    (sym (ap (λ (b : Bool). cond b (Packed (length xs / 8)) (Refused (record { number = 8 }))) t), sym (ap (λ (b : Bool). cond b (bytesOf xs ++ drop (length xs / 8) out) out) t))
 
 fits : (xs out new : List ℕ) → length xs / 8 ≤ length out → new ≡ bytesOf xs ++ drop (length xs / 8) out → (Packed (length xs / 8) ≡ packing xs out) × (new ≡ packed xs out)
 unfolding packing packed
 fits xs out new h e =
     let t = le-leb (length xs / 8) (length out) h in
-    (sym (ap (λ (b : Bool). pickP b (Packed (length xs / 8)) (Refused (record { number = 8 }))) t), e ∙ sym (ap (λ (b : Bool). pickL b (bytesOf xs ++ drop (length xs / 8) out) out) t))
+    (sym (ap (λ (b : Bool). cond b (Packed (length xs / 8)) (Refused (record { number = 8 }))) t), e ∙ sym (ap (λ (b : Bool). cond b (bytesOf xs ++ drop (length xs / 8) out) out) t))
 
 returns : tie.Need-returns
 returns c = refused (c .before .before .before .args .bits .now) (c .before .before .before .args .bytes .now) (c .if1 .taken)

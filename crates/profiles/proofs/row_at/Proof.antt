@@ -1,7 +1,7 @@
 -- `profiles::row_at` meets its contract: each field is a number of the table's row.
 -- Assumes nothing.
-use mathlib.Core.Path.{_≡_, _∙_, ap}
-use Prim.Native.Nat.{ℕ, _+_, _*_, _<_}
+use mathlib.Core.Path.{_≡_}
+use Prim.Native.Nat.{ℕ, _+_, _*_}
 use native.Mathlib.Nat.{add-zero}
 use lib.Dec.{lit<, T, ltb}
 use lib.ListN.{getD}

@@ -4,14 +4,14 @@ use mathlib.Core.Path.{_≡_, refl, sym, ap, _∙_}
 use mathlib.Core.Bool.{true, false}
 use mathlib.Core.List.{List}
 use mathlib.Core.Logic.{⊎-elim}
-use Prim.Native.Nat.{ℕ, _+_, _-_, _<_, _≤_}
+use Prim.Native.Nat.{ℕ, _-_, _<_, _≤_}
 use native.Mathlib.Omega.{arith}
 use borrow.Author.Count.{below-more}
 use lib.ListN.{length, getD}
 use Rattle.laws.proofs.Lists.{find-at, find-none}
 use Rattle.en300401.specs.Uep.{uepTable, isFor, uepRow, noRow}
 use Rattle.profiles.specs.declared.Found.the-variants.{«Row» as RowFound}
-use Rattle.profiles.specs.Rows.{IsTable, numbers, index, profileRow, foundOf}
+use Rattle.profiles.specs.Rows.{IsTable, numbers, index, foundOf}
 use Rattle.profiles.proofs.Rules.{rightNumber, is-table, other-rate, by-level}
 use Rattle.profiles.proofs.uep_profile.Statement.{statement}
 use Rattle.profiles.proofs.uep_profile.Tie as tie

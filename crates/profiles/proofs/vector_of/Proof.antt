@@ -1,21 +1,19 @@
 -- `profiles::vector_of` meets its contract. The loop's invariant: the places before the j-th are those of the vector.
 -- Assumes nothing.
-use mathlib.Core.Path.{_≡_, refl, sym, ap, _∙_, subst}
-use mathlib.Core.Bool.{Bool, true, false, cond}
-use mathlib.Core.List.{List, map}
+use mathlib.Core.Path.{_≡_, refl, sym, ap, _∙_}
+use mathlib.Core.Bool.{Bool, false}
+use mathlib.Core.List.{List}
 use Prim.Native.Nat.{ℕ, _+_, _*_, _-_, _<_, _≤_}
 use native.Mathlib.Omega.{arith}
-use borrow.Author.Count.{below-none}
-use borrow.Author.Needs.{needs}
 use borrow.Author.Tests.{lt-ltb, le-ltb}
-use lib.ListN.{length, getD, set, length-set, length-map, List·getD-map}
+use lib.ListN.{length, getD, length-set, length-map, List·getD-map}
 use lib.Seq.{ext-getD}
 use Rattle.laws.specs.Words.{pickN}
-use Rattle.laws.specs.Lists.{listFrom, listOf}
+use Rattle.laws.specs.Lists.{listOf}
 use Rattle.laws.proofs.Lists.{listOf-at, length-listOf}
 use Rattle.laws.proofs.Slices.{filled}
 use Rattle.en300401.specs.Puncturing.{keeps, rank, vector}
-use Rattle.profiles.specs.Rows.{bits, vectorAt}
+use Rattle.profiles.specs.Rows.{vectorAt}
 use Rattle.profiles.proofs.Rules.{rightPlace, IsCodes, is-codes}
 use Rattle.profiles.proofs.vector_of.Statement.{statement}
 use Rattle.profiles.proofs.vector_of.Tie as tie

@@ -1,13 +1,13 @@
 -- `protection::needed_size` meets its contract: the row's refusal, or the size of its params, which is the profile's.
 -- Assumes nothing.
-use mathlib.Core.Path.{sym, ap, _∙_, subst}
-use Prim.Native.Nat.{ℕ, _+_, _*_, _<_}
+use mathlib.Core.Path.{ap, _∙_}
+use Prim.Native.Nat.{_+_, _<_}
 use Rattle.en300401.specs.Puncturing.{keptSize}
 use Rattle.protection.specs.declared.ProtectionParams.{ProtectionParams}
-use Rattle.protection.specs.Code.{Bounded, sentBy}
+use Rattle.protection.specs.Code.{sentBy}
 use Rattle.protection.specs.Refusals.{profileOf}
-use Rattle.protection.proofs.Sizes.{row-params, row-usable, size-given, size-refused}
-use Rattle.protection.proofs.Params.{params-bounded, kept-by}
+use Rattle.protection.proofs.Sizes.{row-params, row-usable, row-bounded, size-given, size-refused}
+use Rattle.protection.proofs.Params.{kept-by}
 use borrow.Author.Needs.{needs}
 use Rattle.protection.proofs.needed_size.Statement.{statement}
 use Rattle.protection.proofs.needed_size.Tie as tie
@@ -24,11 +24,7 @@ enum-told c = search needs
 kept-size-requires : tie.Need-kept-size-requires
 kept-size-requires c κs =
     let w = c .before .before .before in
-    let d = w .before .args .d in
-    let p = w .protection-params .ensures in
-    let q = c .enum-told .given .1 in
-    let h : d .bitrate < 65536 = search needs in
-    subst Bounded (sym (row-params d p q)) (params-bounded (profileOf d) (row-usable d p q h))
+    row-bounded (w .before .args .d) (w .protection-params .ensures) (c .enum-told .given .1) (search needs)
 
 returns : tie.Need-returns
 returns c =

@@ -4,8 +4,8 @@ use mathlib.Core.Path.{_≡_, refl, ap, ap₂, _∙_}
 use mathlib.Core.List.{List}
 use Prim.Native.Nat.{ℕ, _+_, _*_, _-_, _^_, _≤_, _<_}
 use native.Mathlib.Omega.{arith}
-use lib.IntN.{ℤ, pos, natAbs, _+ℤ_}
-use lib.ListN.{length, getD, take}
+use lib.IntN.{_+ℤ_, ℤ, pos, natAbs}
+use lib.ListN.{length, getD}
 use lib.Signed.{mag, natAbs-le}
 use mir.Syntax.{w8, w32}
 use mir.Val.{toZ, ofZ}

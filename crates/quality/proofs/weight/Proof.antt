@@ -1,13 +1,10 @@
 -- `quality::weight` meets its contract: the cast keeps the value, and its negative fits.
 -- Assumes nothing.
-use mathlib.Core.Path.{_≡_, sym, ap, _∙_, subst}
-use mathlib.Core.Bool.{true, false}
-use Prim.Native.Nat.{ℕ, _≤_}
+use mathlib.Core.Path.{_∙_}
 use native.Mathlib.Omega.{arith}
-use lib.IntN.{ℤ, pos, natAbs, _-ℤ_}
-use lib.Signed.{ltZ}
+use lib.IntN.{ℤ, pos, _-ℤ_}
 use mir.Syntax.{w8, w32}
-use mir.Val.{SFits, toZ, ofZ}
+use mir.Val.{SFits}
 use mir.Facts.{toZ-ofZ}
 use Rattle.laws.proofs.Integers.{abs-fits, abs-diff, fits-abs}
 use Rattle.laws.proofs.Machine.{widens, widened}

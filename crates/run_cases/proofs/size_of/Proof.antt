@@ -1,14 +1,12 @@
 -- `run_cases::size_of` is safe: a negative metric's negative is not negative, and both fit.
 -- Assumes nothing.
-use mathlib.Core.Path.{_≡_, _∙_, subst, sym}
-use mathlib.Core.Bool.{Bool, true, false}
-use Prim.Native.Nat.{ℕ, suc, _≤_, _^_}
+use mathlib.Core.Path.{_≡_, _∙_}
 use native.Mathlib.Omega.{arith}
 use lib.Dec.{T}
-use lib.IntN.{ℤ, pos, negsuc, natAbs, _-ℤ_}
-use lib.Signed.{ltZ, nonNeg}
+use lib.IntN.{ℤ, pos, natAbs, _-ℤ_}
+use lib.Signed.{nonNeg}
 use mir.Syntax.{w32, w64}
-use mir.Val.{Fits, SFits, toZ, ofZ}
+use mir.Val.{Fits, SFits}
 use mir.Facts.{toZ-ofZ}
 use Rattle.laws.proofs.Integers.{abs-fits, abs-diff, fits-abs}
 use Rattle.laws.proofs.Machine.{back}

@@ -1,6 +1,5 @@
 -- `feltcomet::fic::feltcomet_process_fic` meets its contract: no places for the figures, or the room's answer and its figures.
 -- Assumes nothing.
-use Rattle.fic_handler.specs.Blocks.{lent}
 use Rattle.feltcomet.specs.Fic.{figures}
 use Rattle.feltcomet.proofs.FicCalls.{few-counts, few-metrics, few-percents, enough-figures, fic-away, fic-refused, fic-done}
 use borrow.Author.Needs.{needs}

@@ -1,21 +1,21 @@
--- `fic::soft_of` meets its contract, by whether the byte is below 128.
+-- `soft_bytes::soft_of` meets its contract, by whether the byte is below 128.
 -- Assumes nothing.
 use borrow.Author.Needs.{needs}
-use mathlib.Core.Path.{_≡_, refl, sym, ap, _∙_}
+use mathlib.Core.Path.{_≡_, sym, ap, _∙_}
 use mathlib.Core.Bool.{Bool}
 use Prim.Native.Nat.{ℕ, _-_, _<_, _≤_}
 use native.Mathlib.Omega.{arith}
 use borrow.Author.Tests.{lt-ltb, le-ltb}
 use lib.IntN.{ℤ, pos, negsuc, _-ℤ_}
 use mir.Syntax.{w8}
-use mir.Val.{SFits, toZ, ofZ}
+use mir.Val.{SFits, toZ}
 use mir.Facts.{toZ-ofZ}
 use mir.ValLaws.{toZ-pos}
 use Rattle.laws.specs.Integers.{pickZ}
 use Rattle.laws.proofs.Integers.{diff, parts-eq}
-use Rattle.fic.specs.Soft.{softOf}
-use Rattle.fic.proofs.soft_of.Statement.{statement}
-use Rattle.fic.proofs.soft_of.Tie as tie
+use Rattle.soft_bytes.specs.Soft.{softOf}
+use Rattle.soft_bytes.proofs.soft_of.Statement.{statement}
+use Rattle.soft_bytes.proofs.soft_of.Tie as tie
 
 -- -1 - k is the number written negsuc k
 down : (k : ℕ) → negsuc 0 -ℤ pos k ≡ negsuc k
