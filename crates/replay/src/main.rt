@@ -1,121 +1,89 @@
-// Replays recorded answers of the Rust from standard input and counts, function by function, which answers are the same.
-// A record: a kind, then the input and the Rust's answer, each as a length of two bytes, the low one first, and its bytes.
-// Soft values are two's-complement bytes; compare/README.md has the kinds.
-ghost use Prim.Native.Nat.{_+_, _≤_, _<_};
-ghost use lib.ListN.{length};
-use libc::STDIN_FILENO;
+// Replays recorded answers of the Rust on bits, bytes and descriptions, kinds 1 to 5, from standard input, and counts, function by
+// function, which answers are the same.
 use libc::STDOUT_FILENO;
+use protection::Judged;
+use protection::Size;
 
-mod decoders;
-mod descriptions;
-mod values;
-
-fn least(a: usize, b: usize) -> usize
-    ensures { λ r. ⌜ (r ≤ a) × (r ≤ b) ⌝ }
-{
-    if a < b { a } else { b }
+fn disperses(input: &mut [u8], answer: &[u8]) -> bool {
+    energy_dispersal::energy_dispersal(&mut *input);
+    check::same(&*input, answer)
 }
 
-fn wide(x: u8) -> usize
-    ensures { λ r. ⌜ r ≤ 255 ⌝ }
-{
-    x as usize
-}
-
-// A number of four bytes, the low one first.
-fn word(four: &[u8]) -> usize
-    requires { ⌜ 4 ≤ length (now four) ⌝ }
-    ensures { λ r. ⌜ r < 4294967296 ⌝ }
-{
-    wide(four[0]) + 256 * wide(four[1]) + 65536 * wide(four[2]) + 16777216 * wide(four[3])
-}
-
-// A length of two bytes; 0 where the input has ended.
-fn read_length() -> usize {
-    let mut two = [0u8; 2];
-    let got = io::read_full(STDIN_FILENO, &mut two);
-    if got < 2 {
-        return 0;
-    }
-    wide(two[0]) + 256 * wide(two[1])
-}
-
-// A length and its bytes, put at the start of the buffer: how many came.
-fn read_part(buf: &mut [u8]) -> usize
-    ensures { λ r. ⌜ r ≤ length (now (buf .exit)) ⌝ }
-{
-    let n = least(read_length(), buf.len());
-    io::read_full(STDIN_FILENO, &mut buf[0..n])
-}
-
-// The kind of the next record; 0 where there is none.
-fn read_kind() -> usize {
-    let mut one = [0u8; 1];
-    let got = io::read_full(STDIN_FILENO, &mut one);
-    if got < 1 {
-        return 0;
-    }
-    wide(one[0])
-}
-
-fn is_byte(answer: &[u8], yes: bool) -> bool {
+// A yes or no as recorded: one byte, 1 or 0.
+fn is_byte(yes: bool, answer: &[u8]) -> bool {
     if answer.len() != 1 {
         return false;
     }
     if yes { answer[0] == 1 } else { answer[0] == 0 }
 }
 
-// Whether the function of this kind gives the recorded answer.
-fn is_same(kind: usize, input: &mut [u8], answer: &[u8]) -> bool {
-    match kind {
-        1 => {
-            energy_dispersal::energy_dispersal(&mut *input);
-            check::same(&*input, answer)
-        }
-        2 => is_byte(answer, crc::fib_crc_valid(&*input)),
-        3 => is_byte(answer, crc::check_crc_bits(&*input)),
-        _ => is_same_by_values(kind, &*input, answer),
+fn is_accepted(judged: Judged) -> bool {
+    match judged {
+        Judged::Accepted => true,
+        Judged::Refused(_) => false,
     }
 }
 
-fn is_same_by_values(kind: usize, input: &[u8], answer: &[u8]) -> bool {
+fn judges(input: &[u8], answer: &[u8]) -> bool {
+    let d = records::description(input);
+    input.len() == 9 && is_byte(is_accepted(protection::judge(d)), answer)
+}
+
+// A size as recorded: four bytes, or none where there is no row.
+fn is_size(size: Size, four: &[u8]) -> bool {
+    match size {
+        Size::Refused(_) => four.len() == 0,
+        Size::Values(n) => four.len() == 4 && n == records::word(four) as usize,
+    }
+}
+
+// The answer: the needed and the depunctured size.
+fn has_sizes(input: &[u8], answer: &[u8]) -> bool {
+    if input.len() != 9 {
+        return false;
+    }
+    let half = answer.len() / 2;
+    let d = records::description(input);
+    is_size(protection::needed_size(d), &answer[0..half])
+        && is_size(protection::depunctured_size(d), &answer[half..])
+}
+
+// Whether the function of this kind gives the recorded answer.
+fn is_same(kind: usize, input: &mut [u8], answer: &[u8]) -> bool {
     match kind {
-        4 => descriptions::is_judged(input, answer),
-        5 => descriptions::has_sizes(input, answer),
-        6 => descriptions::depunctures(input, answer),
-        7 => values::depunctures_fic(input, answer),
-        8 => decoders::decodes(false, input, answer),
-        9 => decoders::decodes(true, input, answer),
+        1 => disperses(input, answer),
+        2 => is_byte(crc::fib_crc_valid(&*input), answer),
+        3 => is_byte(crc::check_crc_bits(&*input), answer),
+        4 => judges(&*input, answer),
+        5 => has_sizes(&*input, answer),
         _ => false,
     }
 }
 
-fn one_more(n: u64) -> u64 {
-    if n < u64::MAX { n + 1 } else { n }
-}
-
 // One record: whether there was one.
-fn replay(
-    same: &mut [u64; 16],
-    other: &mut [u64; 16],
-    input: &mut [u8],
-    answer: &mut [u8],
-) -> bool {
-    let kind = read_kind();
+fn replay(same: &mut [u64; 16], other: &mut [u64; 16]) -> bool {
+    let kind = records::read_kind();
     if kind == 0 {
         return false;
     }
-    if 16 <= kind {
-        return false;
-    }
-    let n = read_part(&mut *input);
-    let m = read_part(&mut *answer);
-    if is_same(kind, &mut input[0..n], &answer[0..m]) {
-        same[kind] = one_more(same[kind]);
+    let mut input = io::large_buffer();
+    let mut answer = io::large_buffer();
+    let n = records::read_part(&mut input);
+    let m = records::read_part(&mut answer);
+    if is_same(kind, &mut input[..n], &answer[..m]) {
+        records::count(&mut *same, kind);
     } else {
-        other[kind] = one_more(other[kind]);
+        records::count(&mut *other, kind);
     }
     true
+}
+
+// Every record. Nothing says that an input ends, so the turns are counted down from a number that no run uses up.
+fn replay_all(same: &mut [u64; 16], other: &mut [u64; 16]) {
+    let mut turns = u64::MAX;
+    while turns > 0 && replay(&mut *same, &mut *other) {
+        turns -= 1;
+    }
 }
 
 fn tell(name: &[u8], same: u64, other: u64) {
@@ -127,27 +95,13 @@ fn tell(name: &[u8], same: u64, other: u64) {
     io::write_all(STDOUT_FILENO, b" other\n");
 }
 
-// Every record. Nothing says that an input ends, so the turns are counted down from a number that no run uses up.
-fn replay_all(same: &mut [u64; 16], other: &mut [u64; 16], input: &mut [u8], answer: &mut [u8]) {
-    let mut turns = u64::MAX;
-    while turns > 0 && replay(&mut *same, &mut *other, &mut *input, &mut *answer) {
-        turns -= 1;
-    }
-}
-
 fn main() {
     let mut same = [0u64; 16];
     let mut other = [0u64; 16];
-    let mut input = io::large_buffer();
-    let mut answer = io::large_buffer();
-    replay_all(&mut same, &mut other, &mut input, &mut answer);
+    replay_all(&mut same, &mut other);
     tell(b"energy_dispersal", same[1], other[1]);
     tell(b"fib_crc_valid", same[2], other[2]);
     tell(b"check_crc_bits", same[3], other[3]);
     tell(b"judge", same[4], other[4]);
     tell(b"needed_size and depunctured_size", same[5], other[5]);
-    tell(b"depuncture_msc", same[6], other[6]);
-    tell(b"depuncture_fic", same[7], other[7]);
-    tell(b"viterbi_decode_state0", same[8], other[8]);
-    tell(b"viterbi_decode_with_metric", same[9], other[9]);
 }

@@ -1,9 +1,9 @@
--- `replay::decoders::wide` meets its contract: the cast keeps the value.
+-- `replay_values::wide` meets its contract: the cast keeps the value.
 -- Assumes nothing.
 use mathlib.Core.Path.{_∙_}
 use mir.Facts.{toZ-ofZ, sfits-widen}
-use Rattle.replay.proofs.decoders.wide.Statement.{statement}
-use Rattle.replay.proofs.decoders.wide.Tie as tie
+use Rattle.replay_values.proofs.wide.Statement.{statement}
+use Rattle.replay_values.proofs.wide.Tie as tie
 
 cast-result : tie.Need-cast-result
 cast-result c = rw (toZ-ofZ (c .fits .x)) (sfits-widen tt (c .fits .x))

@@ -1,10 +1,10 @@
--- `replay::values::same` is safe and ends.
+-- `replay_values::same_values` is safe and ends.
 -- Assumes nothing.
 use Prim.Native.Nat.{_≤_, _-_}
 use native.Mathlib.Omega.{arith}
 use lib.ListN.{length}
-use Rattle.replay.proofs.values.same.Statement.{statement}
-use Rattle.replay.proofs.values.same.Tie as tie
+use Rattle.replay_values.proofs.same_values.Statement.{statement}
+use Rattle.replay_values.proofs.same_values.Tie as tie
 
 abbrev Inv-loop : tie.InvT-loop
 Inv-loop values bytes i₀ i = i ≤ length values
@@ -21,11 +21,11 @@ loop-holds c = omega arith
 shared-slice-copy-out-if2 : tie.Need-shared-slice-copy-out-if2 Inv-loop μ-loop
 shared-slice-copy-out-if2 c = omega arith
 
-shared-slice-read-value : tie.Need-shared-slice-read-value Inv-loop μ-loop
-shared-slice-read-value c = omega arith
+shared-slice-read-soft-of : tie.Need-shared-slice-read-soft-of Inv-loop μ-loop
+shared-slice-read-soft-of c = omega arith
 
-value-requires : tie.Need-value-requires Inv-loop μ-loop
-value-requires c κs = tt
+soft-of-requires : tie.Need-soft-of-requires Inv-loop μ-loop
+soft-of-requires c κs = tt
 
 returns-2 : tie.Need-returns-2 Inv-loop μ-loop
 returns-2 c = tt
@@ -42,8 +42,8 @@ loop-again c = omega arith
 returns-3 : tie.Need-returns-3 Inv-loop μ-loop
 returns-3 c = tt
 
-pub same-spec : {M : Type 1} → statement M
-same-spec =
+pub same-values-spec : {M : Type 1} → statement M
+same-values-spec =
     tie.close
     (tie.spec
     Inv-loop
@@ -51,8 +51,8 @@ same-spec =
     returns
     loop-holds
     shared-slice-copy-out-if2
-    shared-slice-read-value
-    value-requires
+    shared-slice-read-soft-of
+    soft-of-requires
     returns-2
     add-i
     loop-less

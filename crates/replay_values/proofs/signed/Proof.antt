@@ -1,4 +1,4 @@
--- `replay::decoders::signed` is safe: a number below two to the 32, less that, fits.
+-- `replay_values::signed` is safe: a number below two to the 32, less that, fits.
 -- Assumes nothing.
 use mathlib.Core.Path.{_≡_}
 use Prim.Native.Nat.{ℕ, _+_, _<_}
@@ -9,8 +9,8 @@ use mir.Val.{SFits, toZ}
 use mir.Facts.{toZ-ofZ}
 use Rattle.laws.proofs.Integers.{abs-fits, abs-diff}
 use borrow.Author.Needs.{needs}
-use Rattle.replay.proofs.decoders.signed.Statement.{statement}
-use Rattle.replay.proofs.decoders.signed.Tie as tie
+use Rattle.replay_values.proofs.signed.Statement.{statement}
+use Rattle.replay_values.proofs.signed.Tie as tie
 
 cast-result : tie.Need-cast-result
 cast-result c = search needs
@@ -24,7 +24,7 @@ lower n l =
     rw e (abs-fits w64 (pos n -ℤ pos 4294967296) (omega (arith, abs-diff (pos n) (pos 4294967296))))
 
 sub-result : tie.Need-sub-result
-sub-result c = lower (c .before .args .n) (c .before .pre)
+sub-result c = lower (c .before .args .n) (omega arith)
 
 returns : tie.Need-returns
 returns c = search needs
