@@ -10,11 +10,10 @@ use lib.IntN.{ℤ}
 use Rattle.en300401.specs.Interleaving.{cifBits, symbolBits}
 use Rattle.protection.specs.declared.Description.{Description}
 use Rattle.protection.specs.Refusals.{refusalOf, roomOf}
-use Rattle.msc_handler.specs.declared.State.{State}
-use Rattle.msc_handler.specs.Frames.{stepsOf}
+use Rattle.msc_state.specs.declared.State.{State}
 use Rattle.msc_handler.specs.Promises.{Buffers, refusalIn, completes, turnAt, turnOf}
-use Rattle.msc_handler.specs.States.{badState, valuesOf, ringRoom, frameRoom, lacksRoom, feedRefusal}
-use Rattle.msc_handler.proofs.Refusals.{Sound, Roomy}
+use Rattle.msc_state.specs.States.{badState, valuesOf, ringRoom, frameRoom, lacksRoom, feedRefusal, stepsOf}
+use Rattle.msc_state.proofs.Refusals.{Sound, Roomy}
 use Rattle.agreement.specs.Calls.{Held, Came, History}
 use Rattle.agreement.proofs.Symbols.{description-is, state-sound}
 

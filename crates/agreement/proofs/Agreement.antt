@@ -16,7 +16,7 @@ use Rattle.protection.specs.declared.Description.{Description}
 use Rattle.protection.proofs.Profiles.{accepted-size}
 use Rattle.msc_handler.specs.declared.Fed.{Fed}
 use Rattle.msc_handler.specs.Promises.{saidOf, Buffers, Turn, completes, turnOf, delayed, gathered, CifPromise, Feeds}
-use Rattle.msc_handler.specs.States.{valuesOf}
+use Rattle.msc_state.specs.States.{valuesOf}
 use Rattle.agreement.specs.Sender.{Sender, sentBit, placeOf, cifBit}
 use Rattle.agreement.specs.Calls.{Cif, valueAt, Held, Came, FeedCall, History, LastSixteen, Sixteen, WholeSixteen, Yields}
 use Rattle.agreement.proofs.Accepting.{RoomIn, then-completes}

@@ -15,7 +15,7 @@ use Rattle.en300401.specs.Clean.{Agrees}
 use Rattle.en300401.specs.Dispersal.{disperse}
 use Rattle.en300401.specs.MotherCode.{codeWord}
 use Rattle.en300401.specs.Puncturing.{mask, keptSize, depuncture}
-use Rattle.en300401.specs.Trellis.{Ends, Best}
+use Rattle.en300401.specs.Trellis.{Ends}
 use Rattle.en300401.proofs.Bytes.{bits-length, bits-of-bytes, bytes-back}
 use Rattle.en300401.proofs.CleanWord.{length-word}
 use Rattle.en300401.proofs.Dispersal.{disperse-length, disperse-bits, disperse-twice}
@@ -27,7 +27,8 @@ use Rattle.protection.specs.Refusals.{profileOf, Accepted}
 use Rattle.protection.proofs.Profiles.{accepted-length}
 use Rattle.viterbi.specs.Result.{Decodes}
 use Rattle.viterbi.proofs.Clean.{clean-decoded}
-use Rattle.msc_handler.specs.Frames.{stepsOf, frameBits, Framed}
+use Rattle.msc_handler.specs.Frames.{frameBits, Framed}
+use Rattle.msc_state.specs.States.{stepsOf}
 use Rattle.agreement.specs.Sender.{message, sent}
 use Rattle.agreement.proofs.Rates.{rate-fits}
 

@@ -25,10 +25,10 @@ use Rattle.protection.proofs.Profiles.{accepted-size}
 use Rattle.quality.specs.Figures.{sumAbs, percentOf}
 use Rattle.viterbi.specs.Decoders.{endsOf}
 use Rattle.viterbi.proofs.Result.{bits-one, metric-one, decoded-length}
-use Rattle.msc_handler.specs.declared.Channel.{Channel}
+use Rattle.msc_state.specs.declared.Channel.{Channel}
 use Rattle.msc_handler.specs.Frames.{frameBits, Framed}
 use Rattle.msc_handler.specs.Promises.{Said, framed, Buffers, delayed, Completed, CifPromise}
-use Rattle.msc_handler.specs.States.{valuesOf}
+use Rattle.msc_state.specs.States.{valuesOf}
 use Rattle.msc_handler.proofs.Feeding.{delayed-length}
 use Rattle.agreement.specs.Sender.{Sender, padded, sent, frameBit, sentBit}
 use Rattle.agreement.specs.Calls.{keptOf, Yields}

@@ -19,13 +19,14 @@ use Rattle.protection.specs.Refusals.{Accepted}
 use Rattle.protection.proofs.Profiles.{accepted-place}
 use Rattle.refusal.specs.Outcome.{gives, refuses, outcome, unlessRefused}
 use Rattle.msc_handler.specs.declared.Fed.{Fed}
-use Rattle.msc_handler.specs.declared.SetUp.{SetUp}
-use Rattle.msc_handler.specs.declared.State.{State}
+use Rattle.msc_set_up.specs.declared.SetUp.{SetUp}
+use Rattle.msc_state.specs.declared.State.{State}
 use Rattle.msc_handler.specs.History.{symbolOf, Since, begun, restarted, taken, turned-away, received, stretchValue, heldValue, wholeCifs}
-use Rattle.msc_handler.specs.Promises.{Prepared, Buffers, refusalIn, Turn, refuses as turns-away, gathers, completes, turnAt, turnOf, delayed}
-use Rattle.msc_handler.specs.States.{badState, valuesOf, setUpChecks, setUpRefusal, resetChecks, resetRefusal, whole}
+use Rattle.msc_handler.specs.Promises.{Buffers, refusalIn, Turn, refuses as turns-away, gathers, completes, turnAt, turnOf, delayed}
+use Rattle.msc_set_up.specs.Promises.{Prepared}
+use Rattle.msc_state.specs.States.{badState, valuesOf, setUpChecks, setUpRefusal, resetChecks, resetRefusal, whole}
 use Rattle.msc_handler.proofs.History.{history, read-back}
-use Rattle.msc_handler.proofs.Refusals.{clean, zeroed, held-not, Sound, sound}
+use Rattle.msc_state.proofs.Refusals.{clean, zeroed, held-not, Sound, sound}
 use Rattle.agreement.specs.Sender.{placeOf}
 use Rattle.agreement.specs.Calls.{Cif, valueAt, Held, held, Came, after, FeedCall, History, set-up, reset, set-up-refused, reset-refused, fed, LastSixteen}
 

@@ -14,10 +14,11 @@ use Rattle.protection.specs.Answers.{judgedAs}
 use Rattle.protection.specs.Refusals.{profileOf}
 use Rattle.refusal.specs.Outcome.{gives, refuses}
 use Rattle.msc_handler.specs.declared.Fed.{Fed}
-use Rattle.msc_handler.specs.declared.SetUp.{SetUp}
-use Rattle.msc_handler.specs.declared.State.{State}
+use Rattle.msc_set_up.specs.declared.SetUp.{SetUp}
+use Rattle.msc_state.specs.declared.State.{State}
 use Rattle.msc_handler.specs.History.{symbolOf}
-use Rattle.msc_handler.specs.Promises.{Said, framed, Buffers, Turn, refuses as turns-away, gathers, completes, turnOf, SetUpPromise, ResetPromise, FeedPromise}
+use Rattle.msc_handler.specs.Promises.{Said, framed, Buffers, Turn, refuses as turns-away, gathers, completes, turnOf, FeedPromise}
+use Rattle.msc_set_up.specs.Promises.{SetUpPromise, ResetPromise}
 use Rattle.agreement.specs.Sender.{Sender, placeOf, cifBit}
 
 -- a CIF as it came in: its symbols in order, of each the 3,072 values that are taken

@@ -1,14 +1,14 @@
 -- From the rooms' answers to a number: depuncturing and decoding.
 -- Assumes nothing.
-use mathlib.Core.Path.{_≡_, refl, sym, ap, _∙_, subst}
+use mathlib.Core.Path.{_≡_, refl, sym, _∙_}
 use mathlib.Core.Bool.{Bool, true, false, cond}
 use mathlib.Core.List.{List, [], _∷_}
-use mathlib.Core.Option.{Option, none, some}
-use Prim.Native.Nat.{ℕ, zero, suc, _<_, _≤_, min}
+use mathlib.Core.Option.{none, some}
+use Prim.Native.Nat.{ℕ, _<_, min}
 use native.Mathlib.Omega.{arith}
 use borrow.Author.Tests.{lt-ltb, le-ltb}
 use lib.Dec.{ltb}
-use lib.ListN.{length, set, drop}
+use lib.ListN.{length, set}
 use lib.IntN.{ℤ}
 use Rattle.en300401.specs.Puncturing.{Region}
 use Rattle.en300401.specs.Trellis.{Ends}
@@ -21,11 +21,11 @@ use Rattle.viterbi.specs.declared.Score.{Score}
 use Rattle.viterbi.specs.declared.Decoding.{Decoding}
 use Rattle.viterbi.specs.declared.Decoding.the-variants.{Done, Refused}
 use Rattle.viterbi.specs.Decoders.{steps, refusal, answerOf, Decoded}
-use Rattle.feltcomet.specs.Calls.{short}
-use Rattle.feltcomet.specs.Code.{numberIn, Told, noPlace}
-use Rattle.feltcomet.specs.Decoders.{numberOf, decoderNumber, Untouched, Written, Decoder}
+use Rattle.places.specs.Places.{numberIn}
+use Rattle.places.proofs.Places.{number-is}
+use Rattle.feltcomet.specs.Code.{Told, noPlace}
+use Rattle.feltcomet.specs.Decoders.{numberOf, decoderNumber, Decoder}
 use Rattle.feltcomet.specs.Depuncturing.{Filled}
-use Rattle.feltcomet.proofs.Lookups.{number-is}
 
 pub filled : {n need : ℕ} {profile : List Region} {soft before after : List ℤ} (r : Judged) → DepuncturePromise n need profile soft before after r → (k : ℕ) → k ≡ numberIn r → Filled n need profile soft before after k
 filled {n} r p k e = record { answer = e ∙ number-is r n (p .answer); places = p .places }

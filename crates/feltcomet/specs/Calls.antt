@@ -1,20 +1,14 @@
--- Document 01, "The numbers that turn a caller away": a description as six numbers, and what a lookup by description returns and writes.
+-- Document 01, "The numbers that turn a caller away": what a lookup by description returns and writes.
 use mathlib.Core.Path.{_≡_}
-use mathlib.Core.Bool.{not}
 use mathlib.Core.List.{List, [], _∷_, _++_}
 use Prim.Native.Nat.{ℕ}
-use lib.Dec.{eqb, ltb}
 use lib.ListN.{length, drop}
 use Rattle.en300401.specs.Puncturing.{Region}
-use Rattle.refusal.specs.Outcome.{check, orElse, unlessRefused}
+use Rattle.refusal.specs.Outcome.{orElse, unlessRefused}
 use Rattle.protection.specs.declared.Description.{Description}
 use Rattle.protection.specs.Params.{paramsOf}
 use Rattle.protection.specs.Refusals.{profileOf, rowRefusalOf}
-
--- the description of six numbers; the last is 0 for UEP and any other number for EEP
-unfoldable pub describes : ℕ → ℕ → ℕ → ℕ → ℕ → ℕ → Description
-describes start size rate level option eep =
-    record { «start_addr» = start; «sub_size» = size; bitrate = rate; «protection_level» = level; «eep_option» = option; «is_eep» = not (eqb eep 0) }
+use Rattle.places.specs.Places.{short}
 
 -- a profile as eight numbers: the blocks of its four regions, then their vectors counted from 0
 unfoldable pub rowOf : List Region → List ℕ
@@ -23,10 +17,6 @@ rowOf rs = paramsOf rs .blocks ++ paramsOf rs .pi
 -- a size as one number
 abbrev pub one : (List Region → ℕ) → List Region → List ℕ
 one size rs = size rs ∷ []
-
--- 8: fewer places than needed
-abbrev pub short : ℕ → ℕ → ℕ
-short need room = check 8 (ltb room need)
 
 -- the first of 1 to 4, then 8; 0 for none
 abbrev pub lookupNumber : Description → ℕ → ℕ → ℕ

@@ -8,7 +8,7 @@ use lib.IntN.{ℤ}
 use Rattle.en300401.specs.Trellis.{Ends}
 use Rattle.refusal.specs.Outcome.{orElse}
 use Rattle.viterbi.specs.Decoders.{steps, refusal, done, Decoded}
-use Rattle.feltcomet.specs.Calls.{short}
+use Rattle.places.specs.Places.{short}
 
 -- a refusal's number, 0 for none
 abbrev pub numberOf : Option ℕ → ℕ

@@ -2,5 +2,3 @@ pub mod Calls
 pub mod Code
 pub mod Decoders
 pub mod Depuncturing
-pub mod Fic
-pub mod Msc

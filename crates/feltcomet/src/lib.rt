@@ -1,7 +1,6 @@
 // The library for C and Rust: each function is a room's, over plain numbers and slices. include/feltcomet.h declares and explains them.
 // A refusal is returned as its number, 0 where the call is done; then all that was lent is as it was.
 ghost use mathlib.Core.Path.{_≡_};
-ghost use mathlib.Core.List.{[], _∷_};
 ghost use Prim.Native.Nat.{_<_};
 ghost use lib.ListN.{length};
 ghost use Rattle.en300401.specs.Dispersal.{disperse};
@@ -11,18 +10,15 @@ ghost use Rattle.crc.specs.Tests.{byteTest, bitTest};
 ghost use Rattle.protection.specs.Promises.{motherSize};
 ghost use Rattle.protection.specs.Refusals.{refusalOf};
 ghost use Rattle.viterbi.specs.Decoders.{steps};
-ghost use Rattle.feltcomet.specs.Calls.{describes, rowOf, one, Looked};
-ghost use Rattle.feltcomet.specs.Code.{numberIn, rowIn, Wrote, Told, noPlace};
+ghost use Rattle.fic_handler.specs.Blocks.{lent};
+ghost use Rattle.msc_handler.specs.Promises.{buffers};
+ghost use Rattle.places.specs.Places.{describes};
+ghost use Rattle.figure_places.specs.Fic.{figures, FicCall};
+ghost use Rattle.state_places.specs.Msc.{SetUpCall, ResetCall, fedPlaces, FeedCall};
+ghost use Rattle.feltcomet.specs.Calls.{rowOf, one, Looked};
+ghost use Rattle.feltcomet.specs.Code.{Told, noPlace};
 ghost use Rattle.feltcomet.specs.Decoders.{Decoder};
 ghost use Rattle.feltcomet.specs.Depuncturing.{FilledMsc, FilledFic};
-
-mod fic;
-mod msc;
-
-use protection::Description;
-use protection::Judged;
-use protection::ProtectionParams;
-use protection::Size;
 use viterbi::Decoding;
 
 #[no_mangle]
@@ -46,37 +42,6 @@ pub extern "C" fn feltcomet_check_crc_bits(bits: &[u8]) -> bool
     crc::check_crc_bits(bits)
 }
 
-// A description as C passes it: any flag but 0 says EEP.
-fn described(
-    start_addr: u16,
-    sub_size: u16,
-    bitrate: u16,
-    protection_level: u8,
-    eep_option: u8,
-    is_eep: u32,
-) -> Description
-    ensures { λ r. ⌜ r ≡ describes «start_addr» «sub_size» bitrate «protection_level» «eep_option» «is_eep» ⌝ }
-{
-    Description {
-        start_addr: start_addr,
-        sub_size: sub_size,
-        bitrate: bitrate,
-        protection_level: protection_level,
-        eep_option: eep_option,
-        is_eep: is_eep != 0,
-    }
-}
-
-// The number of a refusal, 0 where there is none.
-fn number(judged: Judged) -> u8
-    ensures { λ r. ⌜ r ≡ numberIn judged ⌝ }
-{
-    match judged {
-        Judged::Refused(r) => r.number,
-        Judged::Accepted => 0,
-    }
-}
-
 #[no_mangle]
 pub extern "C" fn feltcomet_judge(
     start_addr: u16,
@@ -88,7 +53,7 @@ pub extern "C" fn feltcomet_judge(
 ) -> u8
     ensures { λ r. ⌜ r ≡ refusalOf (describes «start_addr» «sub_size» bitrate «protection_level» «eep_option» «is_eep») ⌝ }
 {
-    let d = described(
+    let d = places::described(
         start_addr,
         sub_size,
         bitrate,
@@ -96,27 +61,7 @@ pub extern "C" fn feltcomet_judge(
         eep_option,
         is_eep,
     );
-    number(protection::judge(d))
-}
-
-// A row into the first eight places: refusal 8 where there are fewer.
-fn write_row(p: ProtectionParams, row: &mut [u64]) -> u8
-    ensures { λ r. ⌜ Wrote 8 (rowIn p) (now (row .entry)) (now (row .exit)) r ⌝ }
-{
-    if row.len() < 8 {
-        return 8;
-    }
-    let b = p.blocks;
-    let v = p.pi;
-    row[0] = b[0] as u64;
-    row[1] = b[1] as u64;
-    row[2] = b[2] as u64;
-    row[3] = b[3] as u64;
-    row[4] = v[0] as u64;
-    row[5] = v[1] as u64;
-    row[6] = v[2] as u64;
-    row[7] = v[3] as u64;
-    0
+    places::number(protection::judge(d))
 }
 
 #[no_mangle]
@@ -131,7 +76,7 @@ pub extern "C" fn feltcomet_profile(
 ) -> u8
     ensures { λ r. ⌜ Looked (describes «start_addr» «sub_size» bitrate «protection_level» «eep_option» «is_eep») 8 rowOf (now (row .entry)) (now (row .exit)) r ⌝ }
 {
-    let d = described(
+    let d = places::described(
         start_addr,
         sub_size,
         bitrate,
@@ -139,24 +84,7 @@ pub extern "C" fn feltcomet_profile(
         eep_option,
         is_eep,
     );
-    let found = protection::protection_params(d);
-    let judged = found.judged;
-    let params = found.params;
-    match judged {
-        Judged::Refused(r) => r.number,
-        Judged::Accepted => write_row(params, row),
-    }
-}
-
-// A size into the first place: refusal 8 where there is none.
-fn write_size(n: usize, size: &mut [u64]) -> u8
-    ensures { λ r. ⌜ Wrote 1 (n ∷ []) (now (size .entry)) (now (size .exit)) r ⌝ }
-{
-    if size.len() < 1 {
-        return 8;
-    }
-    size[0] = n as u64;
-    0
+    places::write_row(protection::protection_params(d), row)
 }
 
 #[no_mangle]
@@ -171,7 +99,7 @@ pub extern "C" fn feltcomet_needed_size(
 ) -> u8
     ensures { λ r. ⌜ Looked (describes «start_addr» «sub_size» bitrate «protection_level» «eep_option» «is_eep») 1 (one keptSize) (now (size .entry)) (now (size .exit)) r ⌝ }
 {
-    let d = described(
+    let d = places::described(
         start_addr,
         sub_size,
         bitrate,
@@ -179,11 +107,7 @@ pub extern "C" fn feltcomet_needed_size(
         eep_option,
         is_eep,
     );
-    let needed = protection::needed_size(d);
-    match needed {
-        Size::Refused(r) => r.number,
-        Size::Values(n) => write_size(n, size),
-    }
+    places::write_size(protection::needed_size(d), size)
 }
 
 #[no_mangle]
@@ -198,7 +122,7 @@ pub extern "C" fn feltcomet_depunctured_size(
 ) -> u8
     ensures { λ r. ⌜ Looked (describes «start_addr» «sub_size» bitrate «protection_level» «eep_option» «is_eep») 1 (one motherSize) (now (size .entry)) (now (size .exit)) r ⌝ }
 {
-    let d = described(
+    let d = places::described(
         start_addr,
         sub_size,
         bitrate,
@@ -206,11 +130,7 @@ pub extern "C" fn feltcomet_depunctured_size(
         eep_option,
         is_eep,
     );
-    let depunctured = protection::depunctured_size(d);
-    match depunctured {
-        Size::Refused(r) => r.number,
-        Size::Values(n) => write_size(n, size),
-    }
+    places::write_size(protection::depunctured_size(d), size)
 }
 
 #[no_mangle]
@@ -226,7 +146,7 @@ pub extern "C" fn feltcomet_depuncture_msc(
 ) -> u8
     ensures { λ r. ⌜ FilledMsc (describes «start_addr» «sub_size» bitrate «protection_level» «eep_option» «is_eep») (now (soft .entry)) (now (out .entry)) (now (out .exit)) r ⌝ }
 {
-    let d = described(
+    let d = places::described(
         start_addr,
         sub_size,
         bitrate,
@@ -234,14 +154,14 @@ pub extern "C" fn feltcomet_depuncture_msc(
         eep_option,
         is_eep,
     );
-    number(depuncturing::depuncture_msc(soft, d, out))
+    places::number(depuncturing::depuncture_msc(soft, d, out))
 }
 
 #[no_mangle]
 pub extern "C" fn feltcomet_depuncture_fic(soft: &[i8], out: &mut [i8]) -> u8
     ensures { λ r. ⌜ FilledFic (now (soft .entry)) (now (out .entry)) (now (out .exit)) r ⌝ }
 {
-    number(depuncturing::depuncture_fic(soft, out))
+    places::number(depuncturing::depuncture_fic(soft, out))
 }
 
 // What a decoder has answered: its metric into the first place.
@@ -296,5 +216,96 @@ pub extern "C" fn feltcomet_viterbi_decode_with_metric(
     tell(
         viterbi::viterbi_decode_with_metric(soft, words, bits),
         metric,
+    )
+}
+
+#[no_mangle]
+pub extern "C" fn feltcomet_process_fic(
+    first: &[i8],
+    second: &[i8],
+    third: &[i8],
+    depunctured: &mut [i8],
+    words: &mut [u64],
+    bits: &mut [u8],
+    fibs: &mut [u8],
+    counts: &mut [u64],
+    metrics: &mut [i32],
+    percents: &mut [f64],
+) -> u8
+    ensures { λ r. ⌜ FicCall (now (first .entry)) (now (second .entry)) (now (third .entry)) (lent (now (depunctured .entry)) (now (words .entry)) (now (bits .entry)) (now (fibs .entry))) (figures (now (counts .entry)) (now (metrics .entry)) (now (percents .entry))) r (lent (now (depunctured .exit)) (now (words .exit)) (now (bits .exit)) (now (fibs .exit))) (figures (now (counts .exit)) (now (metrics .exit)) (now (percents .exit))) ⌝ }
+{
+    figure_places::process_fic(
+        first,
+        second,
+        third,
+        depunctured,
+        words,
+        bits,
+        fibs,
+        counts,
+        metrics,
+        percents,
+    )
+}
+
+#[no_mangle]
+pub extern "C" fn feltcomet_set_up(
+    start_addr: u16,
+    sub_size: u16,
+    bitrate: u16,
+    protection_level: u8,
+    eep_option: u8,
+    is_eep: u32,
+    ring: &mut [i8],
+    state: &mut [u64],
+) -> u8
+    ensures { λ r. ⌜ SetUpCall (describes «start_addr» «sub_size» bitrate «protection_level» «eep_option» «is_eep») (now (ring .entry)) (now (state .entry)) r (now (ring .exit)) (now (state .exit)) ⌝ }
+{
+    let d = places::described(
+        start_addr,
+        sub_size,
+        bitrate,
+        protection_level,
+        eep_option,
+        is_eep,
+    );
+    state_places::set_up(d, ring, state)
+}
+
+#[no_mangle]
+pub extern "C" fn feltcomet_reset(state: &mut [u64], ring: &mut [i8]) -> u8
+    ensures { λ r. ⌜ ResetCall (now (state .entry)) (now (ring .entry)) r (now (ring .exit)) (now (state .exit)) ⌝ }
+{
+    state_places::reset(state, ring)
+}
+
+#[no_mangle]
+pub extern "C" fn feltcomet_feed_symbol(
+    state: &mut [u64],
+    soft: &[i8],
+    cif: &mut [i8],
+    ring: &mut [i8],
+    deinterleaved: &mut [i8],
+    depunctured: &mut [i8],
+    words: &mut [u64],
+    bits: &mut [u8],
+    frame: &mut [u8],
+    length: &mut [u64],
+    percent: &mut [f64],
+) -> u8
+    ensures { λ r. ⌜ FeedCall (now (soft .entry)) (buffers (now (cif .entry)) (now (ring .entry)) (now (deinterleaved .entry)) (now (depunctured .entry)) (now (words .entry)) (now (bits .entry)) (now (frame .entry))) (fedPlaces (now (state .entry)) (now (length .entry)) (now (percent .entry))) r (buffers (now (cif .exit)) (now (ring .exit)) (now (deinterleaved .exit)) (now (depunctured .exit)) (now (words .exit)) (now (bits .exit)) (now (frame .exit))) (fedPlaces (now (state .exit)) (now (length .exit)) (now (percent .exit))) ⌝ }
+{
+    state_places::feed_symbol(
+        state,
+        soft,
+        cif,
+        ring,
+        deinterleaved,
+        depunctured,
+        words,
+        bits,
+        frame,
+        length,
+        percent,
     )
 }

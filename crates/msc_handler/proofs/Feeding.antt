@@ -3,7 +3,7 @@
 use mathlib.Core.Path.{_≡_, refl, sym, ap, ap₂, _∙_, subst}
 use mathlib.Core.Bool.{Bool, true, false}
 use mathlib.Core.List.{List, _++_}
-use Prim.Native.Nat.{ℕ, zero, suc, _+_, _*_, _<_, _≤_}
+use Prim.Native.Nat.{ℕ, zero, suc, _*_, _<_, _≤_}
 use native.Mathlib.Omega.{arith}
 use borrow.Author.Tests.{le-leb, lt-leb}
 use lib.ListN.{length, take, drop}
@@ -16,13 +16,13 @@ use Rattle.protection.specs.Refusals.{profileOf, roomOf}
 use Rattle.viterbi.specs.Decoders.{endsOf}
 use Rattle.msc_handler.specs.declared.Answer.{Answer}
 use Rattle.msc_handler.specs.declared.Answer.the-variants.{Waiting, Frame, Refused}
-use Rattle.msc_handler.specs.declared.Channel.{Channel}
+use Rattle.msc_state.specs.declared.Channel.{Channel}
 use Rattle.msc_handler.specs.declared.Fed.{Fed}
-use Rattle.msc_handler.specs.declared.State.{State}
+use Rattle.msc_state.specs.declared.State.{State}
 use Rattle.msc_handler.specs.Frames.{Framed}
-use Rattle.msc_handler.specs.Promises.{Said, waiting, framed, refused, saidOf, Buffers, buffers, refusalIn, Turn, refuses, gathers, completes, turnAt, turnOf, stretchOf, delayed, gathered, rotated, softOf, Completed, CifPromise, Feeds, FeedPromise}
+use Rattle.msc_handler.specs.Promises.{Said, waiting, framed, saidOf, Buffers, buffers, refusalIn, Turn, refuses, gathers, completes, turnAt, turnOf, stretchOf, delayed, gathered, rotated, softOf, Completed, CifPromise, Feeds, FeedPromise}
 use Rattle.msc_handler.specs.Ring.{stored, readOut, refilled}
-use Rattle.msc_handler.specs.States.{valuesOf, whole, due, nextState}
+use Rattle.msc_state.specs.States.{valuesOf, whole, due, nextState}
 use Rattle.msc_handler.proofs.Frames.{framed-unique}
 
 pub delayed-length : (c : Channel) (ring : List ℤ) → length (delayed c ring) ≡ valuesOf (c .description)

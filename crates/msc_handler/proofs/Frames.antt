@@ -1,9 +1,9 @@
 -- From what the callees leave to a frame, its words and its bits; and that there is one frame only.
 -- Assumes nothing.
-use mathlib.Core.Path.{_≡_, refl, sym, ap, ap₂, _∙_, subst}
+use mathlib.Core.Path.{_≡_, sym, ap, ap₂, _∙_, subst}
 use mathlib.Core.Bool.{Bool, cond}
-use mathlib.Core.List.{List, _++_, append-assoc}
-use Prim.Native.Nat.{ℕ, _+_, _*_, _/_, _<_, _≤_}
+use mathlib.Core.List.{List, _++_}
+use Prim.Native.Nat.{ℕ, _*_, _/_, _≤_}
 use native.Mathlib.Omega.{arith}
 use borrow.Author.Tests.{le-leb}
 use lib.ListN.{length, take, drop}
@@ -18,10 +18,10 @@ use Rattle.quality.specs.Figures.{sumAbs, percentOf, qualityOf, measured}
 use Rattle.quality.specs.declared.Measured.{Measured}
 use Rattle.quality.specs.declared.Measured.the-variants.{Is, «Refused» as not-measured}
 use Rattle.viterbi.specs.Decoders.{steps, answerOf, Decoded}
-use Rattle.viterbi.specs.Result.{Decodes}
 use Rattle.viterbi.specs.declared.Decoding.{Decoding}
 use Rattle.viterbi.proofs.Result.{Left, Finished, finished, bits-one, metric-one, words-one, decoded-length}
-use Rattle.msc_handler.specs.Frames.{stepsOf, frameBits, Framed, FrameRoom, metricOf, percentIn}
+use Rattle.msc_handler.specs.Frames.{frameBits, Framed, FrameRoom, metricOf, percentIn}
+use Rattle.msc_state.specs.States.{stepsOf}
 
 -- what is packed, where it fits
 pack-fits : (xs out : List ℕ) (k : ℕ) → length xs / 8 ≡ k → k ≤ length out → packed xs out ≡ bytesOf xs ++ drop k out

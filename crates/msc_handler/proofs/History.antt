@@ -2,38 +2,37 @@
 -- Assumes nothing.
 use mathlib.Core.Path.{_≡_, refl, sym, ap, ap₂, _∙_, subst}
 use mathlib.Core.Logic.{_⊎_, inl, inr}
-use mathlib.Core.Bool.{Bool, true, false, cond}
+use mathlib.Core.Bool.{Bool, cond}
 use mathlib.Core.List.{List, [], _∷_, _++_}
-use Prim.Native.Nat.{ℕ, zero, suc, _+_, _*_, _-_, _/_, _%_, _<_, _≤_, min}
+use Prim.Native.Nat.{ℕ, _+_, _*_, _-_, _/_, _%_, _<_, _≤_, min}
 use native.Mathlib.Omega.{arith}
 use native.Mathlib.Decide.{decLt, ℕ-discrete}
 use native.Mathlib.Nat.{suc-mul, mul-le-mul-right, mod-add-mod}
 use borrow.Author.Tests.{lt-ltb, le-ltb, le-leb, lt-leb}
 use lib.Dec.{ltb, leb}
-use lib.ListN.{length, getD, take, drop, replicate, length-append, length-take, length-drop, length-replicate, getD-replicate, List·getD-append}
-use lib.Seq.{paste, length-paste, length-take-le, getD-append-seam, getD-take, getD-drop, take-at}
+use lib.ListN.{length, getD, drop, replicate, length-append, length-drop, length-replicate, getD-replicate, List·getD-append}
+use lib.Seq.{paste, length-paste, length-take-le, getD-append-seam, getD-take, getD-drop}
 use lib.IntN.{ℤ, pos}
 use Rattle.laws.specs.Integers.{at}
 use Rattle.laws.proofs.Lists.{listOf-at}
 use Rattle.en300401.specs.Interleaving.{cifBits, symbolBits, delay}
 use Rattle.en300401.proofs.Interleaving.{delay-lt}
 use Rattle.protection.specs.declared.Description.{Description}
-use Rattle.protection.specs.Refusals.{refusalOf}
 use Rattle.protection.proofs.Profiles.{accepted-place}
 use Rattle.refusal.specs.Outcome.{unlessRefused}
-use Rattle.msc_handler.specs.declared.Channel.{Channel}
 use Rattle.msc_handler.specs.declared.Fed.{Fed}
-use Rattle.msc_handler.specs.declared.SetUp.{SetUp}
-use Rattle.msc_handler.specs.declared.State.{State}
+use Rattle.msc_set_up.specs.declared.SetUp.{SetUp}
+use Rattle.msc_state.specs.declared.State.{State}
 use Rattle.msc_handler.specs.History.{symbolOf, Since, begun, restarted, taken, turned-away, received, cifValue, stretchValue, heldValue, wholeCifs, Counts, Holds}
-use Rattle.msc_handler.specs.Promises.{cleared, Prepared, Buffers, refusalIn, FeedPromise, stretchOf, delayed}
+use Rattle.msc_handler.specs.Promises.{Buffers, refusalIn, FeedPromise, stretchOf, delayed}
+use Rattle.msc_set_up.specs.Promises.{cleared, Prepared}
 use Rattle.msc_handler.specs.Ring.{stored, part, inSlot, slotOf, readOut, refilled}
-use Rattle.msc_handler.specs.States.{valuesOf, ringRoom, startedAt, freshState, mostFrames, due, nextChannel, nextState}
-use Rattle.msc_handler.proofs.Feeding.{Gathered, Finished, fed-refuses, fed-gathers, fed-completes, delayed-length}
-use Rattle.msc_handler.proofs.Refusals.{Accepted, accepted, set-up-room, reset-room}
+use Rattle.msc_state.specs.States.{valuesOf, ringRoom, startedAt, freshState, mostFrames, nextChannel, nextState}
+use Rattle.msc_handler.proofs.Feeding.{fed-refuses, fed-gathers, fed-completes, delayed-length}
+use Rattle.msc_state.proofs.Refusals.{Accepted, accepted, set-up-room, reset-room}
 use Rattle.laws.proofs.Pasted.{pasted-inside, pasted-else}
 use Rattle.msc_handler.proofs.Ring.{slot-end}
-use Rattle.msc_handler.proofs.States.{after-middle, after-whole}
+use Rattle.msc_state.proofs.States.{after-middle, after-whole}
 
 -- one symbol more leaves what was received before it, and is the next to be received
 module _ (h : List (List ℤ)) (x : List ℤ) where

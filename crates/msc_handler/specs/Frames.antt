@@ -8,6 +8,7 @@ use lib.IntN.{ℤ, pos}
 use lib.Ieee.{Float, fin}
 use Rattle.en300401.specs.Dispersal.{disperse}
 use Rattle.en300401.specs.Trellis.{Ends}
+use Rattle.msc_state.specs.States.{stepsOf}
 use Rattle.packing.specs.Bytes.{bytesOf}
 use Rattle.quality.specs.Figures.{sumAbs, percentOf}
 use Rattle.quality.specs.declared.Measured.{Measured}
@@ -15,10 +16,6 @@ use Rattle.quality.specs.declared.Measured.the-variants.{Is, «Refused» as not
 use Rattle.viterbi.specs.Result.{Decodes, ChoiceWords}
 use Rattle.viterbi.specs.declared.Decoding.{Decoding}
 use Rattle.viterbi.specs.declared.Decoding.the-variants.{Done, «Refused» as not-decoded}
-
--- 24 × bitrate bits, and the six of the tail: one step each
-abbrev pub stepsOf : ℕ → ℕ
-stepsOf rate = 24 * rate + 6
 
 -- the first 24 × bitrate of the decoded bits, dispersed afresh
 abbrev pub frameBits : ℕ → List ℕ → List ℕ

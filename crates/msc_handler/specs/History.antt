@@ -2,7 +2,7 @@
 use mathlib.Core.Path.{_≡_}
 use mathlib.Core.Bool.{cond}
 use mathlib.Core.List.{List, [], _∷_, _++_}
-use Prim.Native.Nat.{ℕ, _+_, _*_, _-_, _/_, _%_, _<_, _≤_, min}
+use Prim.Native.Nat.{ℕ, _+_, _*_, _-_, _/_, _%_, _<_, min}
 use lib.Dec.{ltb}
 use lib.ListN.{length, getD, take}
 use lib.IntN.{ℤ, pos}
@@ -10,11 +10,12 @@ use Rattle.laws.specs.Integers.{at}
 use Rattle.en300401.specs.Interleaving.{cifBits, symbolBits, cifSymbols, frameCifs, unitBits}
 use Rattle.protection.specs.declared.Description.{Description}
 use Rattle.msc_handler.specs.declared.Fed.{Fed}
-use Rattle.msc_handler.specs.declared.SetUp.{SetUp}
-use Rattle.msc_handler.specs.declared.State.{State}
-use Rattle.msc_handler.specs.Promises.{SetUpPromise, ResetPromise, Buffers, refusalIn, FeedPromise}
+use Rattle.msc_set_up.specs.declared.SetUp.{SetUp}
+use Rattle.msc_state.specs.declared.State.{State}
+use Rattle.msc_handler.specs.Promises.{Buffers, refusalIn, FeedPromise}
+use Rattle.msc_set_up.specs.Promises.{SetUpPromise, ResetPromise}
 use Rattle.msc_handler.specs.Ring.{inSlot}
-use Rattle.msc_handler.specs.States.{valuesOf, setUpRefusal, resetRefusal, mostFrames}
+use Rattle.msc_state.specs.States.{valuesOf, setUpRefusal, resetRefusal, mostFrames}
 
 -- what is taken of a symbol: its first 3,072 values
 unfoldable pub symbolOf : List ℤ → List ℤ

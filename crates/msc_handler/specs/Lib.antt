@@ -3,4 +3,3 @@ pub mod History
 pub mod Promises
 pub mod Ring
 pub mod Rooms
-pub mod States

@@ -1,44 +1,23 @@
--- Document 01, "What the receiver owes": the promises of set-up, reset and feeding a symbol.
+-- Document 01, "What the receiver owes": the promise of feeding a symbol.
 use mathlib.Core.Path.{_≡_}
 use mathlib.Core.Bool.{Bool, true, false}
 use mathlib.Core.List.{List, _++_}
-use Prim.Native.Nat.{ℕ, zero, suc, _+_, _*_}
-use lib.ListN.{length, drop, replicate}
-use lib.IntN.{ℤ, pos}
+use Prim.Native.Nat.{ℕ, zero, suc, _*_}
+use lib.ListN.{length, drop}
+use lib.IntN.{ℤ}
 use lib.Ieee.{Float}
 use Rattle.en300401.specs.Puncturing.{mask, depuncture}
 use Rattle.protection.specs.declared.Description.{Description}
-use Rattle.protection.specs.Answers.{judgedAs}
 use Rattle.protection.specs.Refusals.{profileOf, roomOf}
-use Rattle.refusal.specs.Outcome.{outcome, unlessRefused}
 use Rattle.viterbi.specs.Decoders.{endsOf}
 use Rattle.msc_handler.specs.declared.Answer.{Answer}
 use Rattle.msc_handler.specs.declared.Answer.the-variants.{Waiting, Frame, Refused}
-use Rattle.msc_handler.specs.declared.Channel.{Channel}
+use Rattle.msc_state.specs.declared.Channel.{Channel}
 use Rattle.msc_handler.specs.declared.Fed.{Fed}
-use Rattle.msc_handler.specs.declared.SetUp.{SetUp}
-use Rattle.msc_handler.specs.declared.State.{State}
+use Rattle.msc_state.specs.declared.State.{State}
 use Rattle.msc_handler.specs.Frames.{Framed}
 use Rattle.msc_handler.specs.Ring.{stored, part, readOut, refilled}
-use Rattle.msc_handler.specs.States.{valuesOf, ringRoom, setUpRefusal, resetRefusal, feedRefusal, freshState, noDescription, whole, due, nextState}
-
--- the ring's need filled with zeros, and the rest as it was
-unfoldable pub cleared : Description → List ℤ → List ℤ
-cleared d ring = replicate (ringRoom d) (pos 0) ++ drop (ringRoom d) ring
-
--- refused by n, with one state and the ring as it was, or a fresh state and a ring of zeros
-pub record Prepared (n : ℕ) (d : Description) (other : State) (ring : List ℤ) (r : SetUp) (ring' : List ℤ) : Type 0 where
-  pub answer : judgedAs (r .answer) ≡ outcome n tt
-  pub state : r .state ≡ unlessRefused n (freshState d) other
-  pub ring-is : ring' ≡ unlessRefused n (cleared d ring) ring
-
--- a refused set-up has a state of zeros
-abbrev pub SetUpPromise : Description → List ℤ → SetUp → List ℤ → Type 0
-SetUpPromise d ring r ring' = Prepared (setUpRefusal d (length ring)) d (freshState noDescription) ring r ring'
-
--- a refused reset has the state as given
-abbrev pub ResetPromise : State → List ℤ → SetUp → List ℤ → Type 0
-ResetPromise s ring r ring' = Prepared (resetRefusal s (length ring)) (s .channel .description) s ring r ring'
+use Rattle.msc_state.specs.States.{valuesOf, feedRefusal, whole, due, nextState}
 
 -- what an answer says: waiting; a frame, with its byte count and percentage; document 01's number
 pub data Said : Type 0 where

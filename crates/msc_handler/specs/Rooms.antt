@@ -7,10 +7,9 @@ use lib.IntN.{ℤ}
 use Rattle.en300401.specs.Interleaving.{cifBits}
 use Rattle.protection.specs.declared.Description.{Description}
 use Rattle.protection.specs.Refusals.{refusalOf, roomOf}
-use Rattle.msc_handler.specs.declared.Channel.{Channel}
-use Rattle.msc_handler.specs.Frames.{stepsOf}
+use Rattle.msc_state.specs.declared.Channel.{Channel}
 use Rattle.msc_handler.specs.Promises.{Buffers}
-use Rattle.msc_handler.specs.States.{valuesOf, ringRoom, frameRoom}
+use Rattle.msc_state.specs.States.{valuesOf, ringRoom, frameRoom, stepsOf}
 
 -- a CIF, a ring and a place for what is read
 pub record RingLent (c : Channel) (cif ring deinterleaved : List ℤ) : Type 0 where

@@ -1,47 +1,24 @@
 // MSC: symbols to CIFs, a sub-channel's stretch through the ring, frames (msc/mod.rs).
+use msc_state::Channel;
+use msc_state::State;
 use protection::Description;
-use protection::Judged;
 use quality::Measured;
-use refusal::Refusal;
 use viterbi::Decoding;
 ghost use mathlib.Core.Path.{_≡_};
-ghost use mathlib.Core.Bool.{cond};
 ghost use mathlib.Core.List.{_++_};
-ghost use Prim.Native.Nat.{ℕ, _+_, _*_, _-_, _%_, _<_, _≤_, min};
-ghost use lib.Dec.{ltb};
-ghost use lib.ListN.{length, take, drop, set, replicate};
+ghost use Prim.Native.Nat.{ℕ, _+_, _*_, _-_, _<_, _≤_};
+ghost use lib.ListN.{length, take, drop, set};
 ghost use lib.Seq.{paste};
-ghost use lib.IntN.{pos};
 ghost use Rattle.laws.specs.Integers.{at};
 ghost use Rattle.en300401.specs.Interleaving.{delays};
 ghost use Rattle.en300401.specs.Puncturing.{mask, depuncture};
-ghost use Rattle.protection.specs.Refusals.{refusalOf, profileOf, roomOf};
+ghost use Rattle.protection.specs.Refusals.{profileOf, roomOf};
 ghost use Rattle.viterbi.specs.Decoders.{endsOf, answerOf, Decoded};
 ghost use Rattle.msc_handler.specs.Frames.{Framed, FrameRoom, metricOf, percentIn};
-ghost use Rattle.msc_handler.specs.Promises.{cleared, saidOf, stretchOf, delayed, buffers, SetUpPromise, ResetPromise, CifPromise, FeedPromise};
+ghost use Rattle.msc_handler.specs.Promises.{saidOf, stretchOf, delayed, buffers, CifPromise, FeedPromise};
 ghost use Rattle.msc_handler.specs.Ring.{slotOf, readOut, refilled, part};
 ghost use Rattle.msc_handler.specs.Rooms.{RingLent, FrameLent, CifLent};
-ghost use Rattle.msc_handler.specs.States.{badState, valuesOf, ringRoom, lacksRoom, setUpRefusal, resetRefusal, feedRefusal, startedAt, noDescription, mostFrames, nextChannel, nextState};
-
-// What belongs to the sub-channel.
-pub struct Channel {
-    pub description: Description,
-    pub ring_index: u8,
-    pub cif_count: u8,
-    pub frames_decoded: u64,
-}
-
-// What belongs to the CIF, and the sub-channel.
-pub struct State {
-    pub symbols: u8,
-    pub cif_in_frame: u8,
-    pub channel: Channel,
-}
-
-pub struct SetUp {
-    pub state: State,
-    pub answer: Judged,
-}
+ghost use Rattle.msc_state.specs.States.{valuesOf};
 
 pub enum Answer {
     Waiting,
@@ -62,16 +39,6 @@ fn store(soft: &[i8], cif: &mut [i8], from: usize)
     let mut i: usize = 0;
     while i < 3072 {
         cif[from + i] = soft[i];
-        i += 1;
-    }
-}
-
-fn clear(places: &mut [i8])
-    ensures { λ r. ⌜ now (places .exit) ≡ replicate (length (now (places .entry))) (pos 0) ⌝ }
-{
-    let mut i: usize = 0;
-    while i < places.len() {
-        places[i] = 0;
         i += 1;
     }
 }
@@ -114,32 +81,6 @@ fn deinterleave(own: &[i8], ring: &mut [i8], x: usize, out: &mut [i8])
         let from = slot_of(&map, x, i) * n + i;
         out[i] = exchange(&mut *ring, from, x * n + i, own[i]);
         i += 1;
-    }
-}
-
-// One more, modulo n.
-fn next(x: u8, n: u8) -> u8
-    requires { ⌜ (0 < n) × (x < n) ⌝ }
-    ensures { λ r. ⌜ r ≡ (x + 1) % n ⌝ }
-{
-    (x + 1) % n
-}
-
-// One more, held at 17.
-fn counted(count: u8) -> u8
-    ensures { λ r. ⌜ r ≡ min 17 (count + 1) ⌝ }
-{
-    if count < 17 { count + 1 } else { 17 }
-}
-
-// One more, held at the largest.
-fn one_more(frames: u64) -> u64
-    ensures { λ r. ⌜ r ≡ min mostFrames (frames + 1) ⌝ }
-{
-    if frames < 18446744073709551615 {
-        frames + 1
-    } else {
-        frames
     }
 }
 
@@ -189,242 +130,6 @@ fn frame_of(
     energy_dispersal::energy_dispersal(&mut bits[..n]);
     packing::pack(&bits[..n], &mut *frame);
     percent_in(measured)
-}
-
-// The first refusal of a description, 0 where there is none.
-fn description_refusal(d: Description) -> u8
-    ensures { λ r. ⌜ r ≡ refusalOf d ⌝ }
-{
-    let judged = protection::judge(d);
-    match judged {
-        Judged::Accepted => 0,
-        Judged::Refused(refusal) => refusal.number,
-    }
-}
-
-fn is_bad(state: State) -> bool
-    ensures { λ r. ⌜ r ≡ badState state ⌝ }
-{
-    let channel = state.channel;
-    let d = channel.description;
-    if state.symbols > 17 {
-        return true;
-    }
-    if state.cif_in_frame > 3 {
-        return true;
-    }
-    if channel.ring_index > 15 {
-        return true;
-    }
-    if channel.cif_count > 17 {
-        return true;
-    }
-    description_refusal(d) != 0
-}
-
-fn lacks_room(
-    d: Description,
-    cif: usize,
-    ring: usize,
-    deinterleaved: usize,
-    depunctured: usize,
-    words: usize,
-    bits: usize,
-    frame: usize,
-) -> bool
-    ensures { λ r. ⌜ r ≡ lacksRoom d cif ring deinterleaved depunctured words bits frame ⌝ }
-{
-    let size = d.sub_size as usize;
-    let rate = d.bitrate as usize;
-    if cif < 55296 {
-        return true;
-    }
-    if ring < 1024 * size {
-        return true;
-    }
-    if deinterleaved < 64 * size {
-        return true;
-    }
-    if depunctured < 96 * rate + 24 {
-        return true;
-    }
-    if words < 24 * rate + 6 {
-        return true;
-    }
-    if bits < 24 * rate + 6 {
-        return true;
-    }
-    frame < 3 * rate
-}
-
-// A refusal where its condition holds, else a later one.
-fn first(holds: bool, number: u8, later: u8) -> u8
-    ensures { λ r. ⌜ r ≡ cond holds number later ⌝ }
-{
-    if holds { number } else { later }
-}
-
-fn set_up_refusal(d: Description, ring: usize) -> u8
-    ensures { λ r. ⌜ r ≡ setUpRefusal d ring ⌝ }
-{
-    let number = description_refusal(d);
-    if number != 0 {
-        return number;
-    }
-    if ring < 1024 * (d.sub_size as usize) {
-        return 8;
-    }
-    0
-}
-
-fn reset_refusal(state: State, ring: usize) -> u8
-    ensures { λ r. ⌜ r ≡ resetRefusal state ring ⌝ }
-{
-    let channel = state.channel;
-    let d = channel.description;
-    let bad = is_bad(state);
-    let need = 1024 * (d.sub_size as usize);
-    first(bad, 10, first(ring < need, 8, 0))
-}
-
-fn feed_refusal(
-    state: State,
-    soft: usize,
-    cif: usize,
-    ring: usize,
-    deinterleaved: usize,
-    depunctured: usize,
-    words: usize,
-    bits: usize,
-    frame: usize,
-) -> u8
-    ensures { λ r. ⌜ r ≡ feedRefusal state soft cif ring deinterleaved depunctured words bits frame ⌝ }
-{
-    let channel = state.channel;
-    let d = channel.description;
-    let bad = is_bad(state);
-    let lacks = lacks_room(d, cif, ring, deinterleaved, depunctured, words, bits, frame);
-    first(bad, 10, first(lacks, 8, first(soft < 3072, 9, 0)))
-}
-
-fn started(d: Description, ring_index: u8, cif_in_frame: u8) -> State
-    ensures { λ r. ⌜ r ≡ startedAt d «ring_index» «cif_in_frame» ⌝ }
-{
-    State {
-        symbols: 0,
-        cif_in_frame,
-        channel: Channel {
-            description: d,
-            ring_index,
-            cif_count: 0,
-            frames_decoded: 0,
-        },
-    }
-}
-
-fn no_description() -> Description
-    ensures { λ r. ⌜ r ≡ noDescription ⌝ }
-{
-    Description {
-        start_addr: 0,
-        sub_size: 0,
-        bitrate: 0,
-        protection_level: 0,
-        eep_option: 0,
-        is_eep: false,
-    }
-}
-
-// Zeros for the ring's need.
-fn clear_ring(d: Description, ring: &mut [i8])
-    requires { ⌜ ringRoom d ≤ length (now ring) ⌝ }
-    ensures { λ r. ⌜ now (ring .exit) ≡ cleared d (now (ring .entry)) ⌝ }
-{
-    let n = 1024 * (d.sub_size as usize);
-    clear(&mut ring[..n]);
-}
-
-// A state for a description, and its ring's need filled with zeros: refusals 1 to 7, then 8.
-pub fn set_up(d: Description, ring: &mut [i8]) -> SetUp
-    ensures { λ r. ⌜ SetUpPromise d (now (ring .entry)) r (now (ring .exit)) ⌝ }
-{
-    let number = set_up_refusal(d, ring.len());
-    if number != 0 {
-        return SetUp {
-            state: started(no_description(), 0, 0),
-            answer: Judged::Refused(Refusal { number }),
-        };
-    }
-    clear_ring(d, &mut *ring);
-    SetUp {
-        state: started(d, 0, 0),
-        answer: Judged::Accepted,
-    }
-}
-
-// The state of a new set-up with the same description: refusals 10, 8.
-pub fn reset(state: State, ring: &mut [i8]) -> SetUp
-    ensures { λ r. ⌜ ResetPromise state (now (ring .entry)) r (now (ring .exit)) ⌝ }
-{
-    let channel = state.channel;
-    let description = channel.description;
-    let number = reset_refusal(state, ring.len());
-    if number != 0 {
-        return SetUp {
-            state,
-            answer: Judged::Refused(Refusal { number }),
-        };
-    }
-    clear_ring(description, &mut *ring);
-    SetUp {
-        state: started(description, 0, 0),
-        answer: Judged::Accepted,
-    }
-}
-
-// One frame more where the count, which has been moved on, is above 16.
-fn frames_after(count: u8, frames: u64) -> u64
-    ensures { λ r. ⌜ r ≡ cond (ltb 16 count) (min mostFrames (frames + 1)) frames ⌝ }
-{
-    if count <= 16 {
-        return frames;
-    }
-    one_more(frames)
-}
-
-// The sub-channel after a whole CIF.
-fn moved_on(channel: Channel) -> Channel
-    requires { ⌜ channel .«ring_index» < 16 ⌝ }
-    ensures { λ r. ⌜ r ≡ nextChannel channel ⌝ }
-{
-    let count = counted(channel.cif_count);
-    let d = channel.description;
-    Channel {
-        description: d,
-        ring_index: next(channel.ring_index, 16),
-        cif_count: count,
-        frames_decoded: frames_after(count, channel.frames_decoded),
-    }
-}
-
-// The state after a symbol.
-fn after_symbol(state: State) -> State
-    requires { ⌜ (state .symbols < 18) × (state .«cif_in_frame» < 4) × (state .channel .«ring_index» < 16) ⌝ }
-    ensures { λ r. ⌜ r ≡ nextState state ⌝ }
-{
-    let channel = state.channel;
-    if state.symbols < 17 {
-        return State {
-            symbols: state.symbols + 1,
-            cif_in_frame: state.cif_in_frame,
-            channel,
-        };
-    }
-    State {
-        symbols: 0,
-        cif_in_frame: next(state.cif_in_frame, 4),
-        channel: moved_on(channel),
-    }
 }
 
 // A whole CIF: what the ring holds of it is read, and the sub-channel's stretch takes its place.
@@ -482,8 +187,7 @@ fn process_cif(
     ensures { λ r. ⌜ CifPromise channel (buffers (now (cif .entry)) (now (ring .entry)) (now (deinterleaved .entry)) (now (depunctured .entry)) (now (words .entry)) (now (bits .entry)) (now (frame .entry))) (saidOf r) (buffers (now (cif .entry)) (now (ring .exit)) (now (deinterleaved .exit)) (now (depunctured .exit)) (now (words .exit)) (now (bits .exit)) (now (frame .exit))) ⌝ }
 {
     rotate(channel, cif, &mut *ring, &mut *deinterleaved);
-    let passed = counted(channel.cif_count);
-    if passed <= 16 {
+    if channel.cif_count < 16 {
         return Answer::Waiting;
     }
     let d = channel.description;
@@ -512,7 +216,7 @@ pub fn feed_symbol(
 ) -> Fed
     ensures { λ r. ⌜ FeedPromise state (now (soft .entry)) (buffers (now (cif .entry)) (now (ring .entry)) (now (deinterleaved .entry)) (now (depunctured .entry)) (now (words .entry)) (now (bits .entry)) (now (frame .entry))) r (buffers (now (cif .exit)) (now (ring .exit)) (now (deinterleaved .exit)) (now (depunctured .exit)) (now (words .exit)) (now (bits .exit)) (now (frame .exit))) ⌝ }
 {
-    let number = feed_refusal(
+    let number = msc_state::feed_refusal(
         state,
         soft.len(),
         cif.len(),
@@ -529,7 +233,7 @@ pub fn feed_symbol(
             answer: Answer::Refused(number),
         };
     }
-    let after = after_symbol(state);
+    let after = msc_state::after_symbol(state);
     let symbols = state.symbols;
     let from = 3072 * (symbols as usize);
     store(soft, &mut *cif, from);

@@ -5,7 +5,7 @@ ghost use Prim.Native.Nat.{_≤_};
 use libc::STDIN_FILENO;
 use libc::STDOUT_FILENO;
 use msc_handler::Answer;
-use msc_handler::State;
+use msc_state::State;
 use protection::Description;
 
 // EEP 3-A, 96 kbit/s: a description counts EEP levels from 0.
@@ -87,7 +87,7 @@ fn some_frame() -> [u8; 384] {
 
 // A refused set-up gives a state that is refused at the first symbol.
 fn start(d: Description, ring: &mut [i8]) -> State {
-    let set_up = msc_handler::set_up(d, &mut *ring);
+    let set_up = msc_set_up::set_up(d, &mut *ring);
     set_up.state
 }
 

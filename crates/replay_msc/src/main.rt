@@ -7,7 +7,7 @@ ghost use lib.ListN.{length};
 use libc::STDOUT_FILENO;
 use msc_handler::Answer;
 use msc_handler::Fed;
-use msc_handler::State;
+use msc_state::State;
 use protection::Description;
 use protection::Judged;
 
@@ -225,7 +225,7 @@ fn receives(input: &[u8], recorded: &[u8]) -> bool {
         return false;
     }
     let mut ring = some_ring();
-    let started = msc_handler::set_up(smallest(), &mut ring);
+    let started = msc_set_up::set_up(smallest(), &mut ring);
     let state = started.state;
     let answer = started.answer;
     if let Judged::Refused(_) = answer {

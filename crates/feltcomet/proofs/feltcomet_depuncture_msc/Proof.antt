@@ -1,6 +1,5 @@
 -- `feltcomet::feltcomet_depuncture_msc` meets its contract, by the room's.
 -- Assumes nothing.
-use Rattle.feltcomet.specs.Depuncturing.{FilledMsc}
 use Rattle.feltcomet.proofs.Answers.{filled}
 use borrow.Author.Needs.{needs}
 use Rattle.feltcomet.proofs.feltcomet_depuncture_msc.Statement.{statement}

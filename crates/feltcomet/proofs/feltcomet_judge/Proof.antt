@@ -2,7 +2,7 @@
 -- Assumes nothing.
 use mathlib.Core.Path.{ap, _∙_}
 use Rattle.protection.specs.Refusals.{refusalOf}
-use Rattle.feltcomet.proofs.Lookups.{number-is}
+use Rattle.places.proofs.Places.{number-is}
 use borrow.Author.Needs.{needs}
 use Rattle.feltcomet.proofs.feltcomet_judge.Statement.{statement}
 use Rattle.feltcomet.proofs.feltcomet_judge.Tie as tie

@@ -1,6 +1,6 @@
 -- `msc_handler::decode` meets its contract.
 -- Assumes nothing.
-use mathlib.Core.Path.{_≡_, sym, subst}
+use mathlib.Core.Path.{sym, subst}
 use mathlib.Core.Bool.{Bool}
 use Rattle.viterbi.specs.Decoders.{endsOf, answerOf, Decoded}
 use borrow.Author.Needs.{needs}

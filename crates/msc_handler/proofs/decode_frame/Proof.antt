@@ -1,7 +1,7 @@
 -- `msc_handler::decode_frame` meets its contract: an accepted description, with room, is depunctured to the values of a frame.
 -- Assumes nothing.
 use borrow.Author.Needs.{needs}
-use mathlib.Core.Path.{_≡_, refl, sym, ap, _∙_, subst}
+use mathlib.Core.Path.{_≡_, sym, ap, _∙_, subst}
 use mathlib.Core.List.{List, _++_}
 use Prim.Native.Nat.{ℕ, _+_, _*_, _<_, _≤_}
 use native.Mathlib.Omega.{arith}
@@ -15,8 +15,8 @@ use Rattle.protection.specs.Refusals.{profileOf, roomOf}
 use Rattle.protection.proofs.Profiles.{accepted-length, accepted-rate}
 use Rattle.depuncturing.proofs.Depunctures.{room-given}
 use Rattle.viterbi.specs.Decoders.{endsOf}
-use Rattle.msc_handler.specs.Frames.{stepsOf, Framed}
-use Rattle.msc_handler.specs.States.{valuesOf}
+use Rattle.msc_handler.specs.Frames.{Framed}
+use Rattle.msc_state.specs.States.{valuesOf, stepsOf}
 use Rattle.msc_handler.proofs.decode_frame.Statement.{statement}
 use Rattle.msc_handler.proofs.decode_frame.Tie as tie
 

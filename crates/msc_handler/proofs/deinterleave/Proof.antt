@@ -1,12 +1,12 @@
 -- `msc_handler::deinterleave` meets its contract: each turn reads value i of a slot in which, of slot x, only values before i were replaced.
 -- Assumes nothing.
-use mathlib.Core.Path.{_≡_, refl, sym, ap, _∙_, subst}
+use mathlib.Core.Path.{_≡_, refl, sym, ap, _∙_}
 use mathlib.Core.List.{List}
 use Prim.Native.Nat.{ℕ, _+_, _*_, _-_, _≤_, _<_}
 use native.Mathlib.Omega.{arith}
 use native.Mathlib.Nat.{not-suc-le-zero, suc-mul, mul-le-mul-right}
 use lib.IntN.{ℤ, pos}
-use lib.ListN.{length, getD, set, length-set}
+use lib.ListN.{length, set, length-set}
 use lib.Seq.{paste, paste-zero, length-paste, ext-getD}
 use mir.Syntax.{w8}
 use Rattle.laws.specs.Integers.{at}

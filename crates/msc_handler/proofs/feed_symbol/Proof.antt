@@ -2,14 +2,13 @@
 -- Assumes nothing.
 use borrow.Author.Needs.{needs}
 use mathlib.Core.Path.{_≡_, sym, _∙_}
-use Prim.Native.Nat.{ℕ, _+_, _*_, _<_, _≤_}
 use native.Mathlib.Omega.{arith}
 use lib.ListN.{length}
 use Rattle.msc_handler.specs.Promises.{Buffers, buffers, refusalIn}
 use Rattle.msc_handler.specs.Ring.{stored}
-use Rattle.msc_handler.specs.States.{nextState}
+use Rattle.msc_state.specs.States.{nextState}
 use Rattle.msc_handler.proofs.Feeding.{feed-refused, feed-gathers, feed-completes}
-use Rattle.msc_handler.proofs.Refusals.{Accepted, accepted}
+use Rattle.msc_state.proofs.Refusals.{Accepted, accepted}
 use Rattle.msc_handler.proofs.feed_symbol.Statement.{statement}
 use Rattle.msc_handler.proofs.feed_symbol.Tie as tie
 
@@ -47,9 +46,7 @@ returns c =
     feed-refused (s .args .state) (s .args .soft .now) (given s) (c .before .feed-refusal .ensures) (c .if1 .taken)
 
 after-symbol-requires : tie.Need-after-symbol-requires
-after-symbol-requires c κs =
-    let a = sound c in
-    (omega (arith, a .state .symbols), omega (arith, a .state .in-frame), omega (arith, a .state .index))
+after-symbol-requires c κs = search needs
 
 cast-from : tie.Need-cast-from
 cast-from c = search needs

@@ -1,16 +1,14 @@
 -- `msc_handler::frame_of` meets its contract, by what its callees leave.
 -- Assumes nothing.
-use mathlib.Core.Path.{_≡_, refl, sym, ap, _∙_, subst}
-use mathlib.Core.List.{List, _++_}
-use Prim.Native.Nat.{ℕ, _+_, _*_, _≤_}
+use mathlib.Core.Path.{sym, ap, _∙_}
+use Prim.Native.Nat.{_*_}
 use native.Mathlib.Omega.{arith}
-use lib.ListN.{length, take, drop, length-append}
+use lib.ListN.{drop, length-append}
 use lib.Seq.{length-take-le}
 use lib.IntN.{ℤ}
 use mir.Syntax.{w32}
 use Rattle.laws.proofs.Machine.{back}
 use Rattle.quality.specs.Figures.{measured}
-use Rattle.msc_handler.specs.Frames.{Framed}
 use Rattle.msc_handler.proofs.Frames.{framed-by}
 use borrow.Author.Needs.{needs}
 use Rattle.msc_handler.proofs.frame_of.Statement.{statement}

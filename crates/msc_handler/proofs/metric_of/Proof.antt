@@ -1,7 +1,6 @@
 -- `msc_handler::metric_of` meets its contract.
 -- Assumes nothing.
-use mathlib.Core.Path.{_≡_, refl, sym, ap, _∙_}
-use mir.Syntax.{w32}
+use mathlib.Core.Path.{sym, ap, _∙_}
 use mir.Facts.{toZ-ofZ}
 use Rattle.msc_handler.specs.Frames.{metricOf}
 use borrow.Author.Needs.{needs}

@@ -1,6 +1,6 @@
 -- `msc_handler::percent_in` meets its contract.
 -- Assumes nothing.
-use mathlib.Core.Path.{_≡_, refl, sym, ap, _∙_}
+use mathlib.Core.Path.{sym, ap}
 use lib.Ieee.{ofBits}
 use Rattle.msc_handler.specs.Frames.{percentIn}
 use borrow.Author.Needs.{needs}

@@ -1,10 +1,7 @@
 -- `msc_handler::process_cif` meets its contract, by whether sixteen CIFs went before.
 -- Assumes nothing.
 use borrow.Author.Needs.{needs}
-use mathlib.Core.Path.{_≡_, refl, sym, ap, _∙_}
-use Prim.Native.Nat.{ℕ, _+_, _*_, _<_, _≤_, min}
 use native.Mathlib.Omega.{arith}
-use lib.ListN.{length}
 use Rattle.msc_handler.specs.Promises.{Buffers, buffers}
 use Rattle.protection.proofs.Profiles.{accepted-place}
 use Rattle.msc_handler.proofs.Feeding.{cif-waits, cif-frames}
@@ -23,9 +20,6 @@ rotate-requires c κs =
     let s = c .before .before .before .before .before in
     record { index = s .pre .index; inside = accepted-place _ (s .pre .none); cif-long = s .pre .cif-long; ring-long = s .pre .ring-long; read-long = s .pre .read-long }
 
-counted-requires : tie.Need-counted-requires
-counted-requires c κs = search needs
-
 same-length : tie.Need-same-length
 same-length c = c .before .before .before .before .rotate .kept .1 .1 .0
 
@@ -35,7 +29,7 @@ same-length-2 c = c .before .before .before .before .rotate .kept .1 .1 .1 .0
 returns : tie.Need-returns
 returns c =
     let r = c .before .before .before .before in
-    cif-waits (start r .args .channel) (given (start r)) (r .rotate .ensures .0) (r .rotate .ensures .1) (omega (arith, c .before .counted .ensures, c .if1 .taken))
+    cif-waits (start r .args .channel) (given (start r)) (r .rotate .ensures .0) (r .rotate .ensures .1) (c .if1 .taken)
 
 decode-frame-requires : tie.Need-decode-frame-requires
 decode-frame-requires c κs =
@@ -50,11 +44,11 @@ decode-frame-requires c κs =
       frame-long = s .pre .frame-long;
     }
 
-cast-t28 : tie.Need-cast-t28
-cast-t28 c = search needs
+cast-t27 : tie.Need-cast-t27
+cast-t27 c = search needs
 
-mul-t29 : tie.Need-mul-t29
-mul-t29 c = search needs
+mul-t28 : tie.Need-mul-t28
+mul-t28 c = search needs
 
 same-length-3 : tie.Need-same-length-3
 same-length-3 c = c .before .before .before .before .before .before .before .before .before .before .before .before .before .before .before .before .before .before .before .rotate .kept .1 .1 .0
@@ -79,20 +73,19 @@ returns-2 c =
     let d = c .before .before .before .before .before .before .before .before in
     let e = d .before .before .before .before .before .before .before in
     let r = e .before .before .before .before in
-    cif-frames (start r .args .channel) (given (start r)) (r .rotate .ensures .0) (r .rotate .ensures .1) (omega (arith, e .before .counted .ensures, e .if1 .left)) (d .decode-frame .ensures .0) (d .decode-frame .ensures .1)
+    cif-frames (start r .args .channel) (given (start r)) (r .rotate .ensures .0) (r .rotate .ensures .1) (e .if1 .left) (d .decode-frame .ensures .0) (d .decode-frame .ensures .1)
 
 pub process-cif-spec : {M : Type 1} → statement M
 process-cif-spec =
     tie.close
     (tie.spec
     rotate-requires
-    counted-requires
     same-length
     same-length-2
     returns
     decode-frame-requires
-    cast-t28
-    mul-t29
+    cast-t27
+    mul-t28
     same-length-3
     same-length-4
     same-length-5

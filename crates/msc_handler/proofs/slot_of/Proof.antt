@@ -1,11 +1,10 @@
 -- `msc_handler::slot_of` meets its contract.
 -- Assumes nothing.
-use mathlib.Core.Path.{_≡_, ap}
+use mathlib.Core.Path.{ap}
 use mathlib.Core.List.{List}
-use Prim.Native.Nat.{ℕ, _+_, _%_, _<_}
+use Prim.Native.Nat.{ℕ, _+_, _%_}
 use native.Mathlib.Omega.{arith}
 use lib.ListN.{getD}
-use Rattle.en300401.specs.Interleaving.{delays}
 use Rattle.en300401.proofs.Interleaving.{delay-lt}
 use borrow.Author.Needs.{needs}
 use Rattle.msc_handler.proofs.slot_of.Statement.{statement}

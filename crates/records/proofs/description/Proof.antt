@@ -1,6 +1,5 @@
 -- `records::description` meets its contract: field by field.
 -- Assumes nothing.
-use mathlib.Core.Path.{_≡_}
 use borrow.Author.Needs.{needs}
 use Rattle.records.proofs.description.Statement.{statement}
 use Rattle.records.proofs.description.Tie as tie

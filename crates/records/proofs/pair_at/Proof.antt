@@ -1,6 +1,5 @@
 -- `records::pair_at` meets its contract: past the end both bytes are 0.
 -- Assumes nothing.
-use mathlib.Core.Path.{_≡_}
 use Prim.Native.Nat.{_+_, _≤_}
 use native.Mathlib.Omega.{arith}
 use lib.ListN.{length, List·getD-eq-default}

@@ -1,0 +1,2 @@
+pub mod FicCalls
+pub mod FicUnique

@@ -1,0 +1,73 @@
+// MSC: set-up and reset of a sub-channel's state and ring (msc/mod.rs).
+use msc_state::State;
+use protection::Description;
+use protection::Judged;
+use refusal::Refusal;
+ghost use mathlib.Core.Path.{_≡_};
+ghost use Prim.Native.Nat.{_≤_};
+ghost use lib.ListN.{length, replicate};
+ghost use lib.IntN.{pos};
+ghost use Rattle.msc_state.specs.States.{ringRoom};
+ghost use Rattle.msc_set_up.specs.Promises.{cleared, SetUpPromise, ResetPromise};
+
+pub struct SetUp {
+    pub state: State,
+    pub answer: Judged,
+}
+
+fn clear(places: &mut [i8])
+    ensures { λ r. ⌜ now (places .exit) ≡ replicate (length (now (places .entry))) (pos 0) ⌝ }
+{
+    let mut i: usize = 0;
+    while i < places.len() {
+        places[i] = 0;
+        i += 1;
+    }
+}
+
+// Zeros for the ring's need.
+fn clear_ring(d: Description, ring: &mut [i8])
+    requires { ⌜ ringRoom d ≤ length (now ring) ⌝ }
+    ensures { λ r. ⌜ now (ring .exit) ≡ cleared d (now (ring .entry)) ⌝ }
+{
+    let n = 1024 * (d.sub_size as usize);
+    clear(&mut ring[..n]);
+}
+
+// A state for a description, and its ring's need filled with zeros: refusals 1 to 7, then 8.
+pub fn set_up(d: Description, ring: &mut [i8]) -> SetUp
+    ensures { λ r. ⌜ SetUpPromise d (now (ring .entry)) r (now (ring .exit)) ⌝ }
+{
+    let number = msc_state::set_up_refusal(d, ring.len());
+    if number != 0 {
+        return SetUp {
+            state: msc_state::started(msc_state::no_description(), 0, 0),
+            answer: Judged::Refused(Refusal { number }),
+        };
+    }
+    clear_ring(d, &mut *ring);
+    SetUp {
+        state: msc_state::started(d, 0, 0),
+        answer: Judged::Accepted,
+    }
+}
+
+// The state of a new set-up with the same description: refusals 10, 8.
+pub fn reset(state: State, ring: &mut [i8]) -> SetUp
+    ensures { λ r. ⌜ ResetPromise state (now (ring .entry)) r (now (ring .exit)) ⌝ }
+{
+    let channel = state.channel;
+    let description = channel.description;
+    let number = msc_state::reset_refusal(state, ring.len());
+    if number != 0 {
+        return SetUp {
+            state,
+            answer: Judged::Refused(Refusal { number }),
+        };
+    }
+    clear_ring(description, &mut *ring);
+    SetUp {
+        state: msc_state::started(description, 0, 0),
+        answer: Judged::Accepted,
+    }
+}

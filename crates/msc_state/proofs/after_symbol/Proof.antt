@@ -1,0 +1,29 @@
+-- `msc_state::after_symbol` meets its contract.
+-- Assumes nothing.
+use borrow.Author.Needs.{needs}
+use mathlib.Core.Path.{sym, _∙_}
+use Rattle.msc_state.proofs.States.{after-middle, after-whole}
+use Rattle.msc_state.proofs.after_symbol.Statement.{statement}
+use Rattle.msc_state.proofs.after_symbol.Tie as tie
+
+add-t4 : tie.Need-add-t4
+add-t4 c = search needs
+
+returns : tie.Need-returns
+returns c =
+    let s = c .before .before .before .before in
+    sym (after-middle (s .args .state) (c .before .if1 .taken))
+
+next-requires : tie.Need-next-requires
+next-requires c κs = search needs
+
+moved-on-requires : tie.Need-moved-on-requires
+moved-on-requires c κs = search needs
+
+returns-2 : tie.Need-returns-2
+returns-2 c =
+    let s = c .before .before .before .before .before in
+    (λ i. record { symbols = 0; «cif_in_frame» = c .before .next .ensures i; channel = c .moved-on .ensures i }) ∙ sym (after-whole (s .args .state) (c .before .before .if1 .left))
+
+pub after-symbol-spec : {M : Type 1} → statement M
+after-symbol-spec = tie.close (tie.spec add-t4 returns next-requires moved-on-requires returns-2)

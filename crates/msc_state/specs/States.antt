@@ -1,0 +1,106 @@
+-- Document 01, "Room" and "The numbers that turn a caller away": the state, what is to be lent, refusals 8 to 10, and the state after a call.
+use mathlib.Core.Bool.{Bool, true, false, cond, not}
+use mathlib.Core.List.{List, [], _∷_}
+use Prim.Native.Nat.{ℕ, _+_, _*_, _%_, min}
+use lib.Dec.{eqb, ltb, leb}
+use Rattle.en300401.specs.Interleaving.{cifBits, symbolBits}
+use Rattle.protection.specs.declared.Description.{Description}
+use Rattle.protection.specs.Refusals.{refusalOf, roomOf}
+use Rattle.refusal.specs.Outcome.{check, firstOf}
+use Rattle.msc_state.specs.declared.Channel.{Channel}
+use Rattle.msc_state.specs.declared.State.{State}
+
+-- some flag holds
+abbrev pub anyOf : List Bool → Bool
+anyOf [] = false
+anyOf (true ∷ bs) = true
+anyOf (false ∷ bs) = anyOf bs
+
+-- symbols above 17, CIF in frame above 3, ring index above 15, count above 17, or a description refused by 1 to 7
+abbrev pub faults : State → List Bool
+faults s = ltb 17 (s .symbols) ∷ ltb 3 (s .«cif_in_frame») ∷ ltb 15 (s .channel .«ring_index») ∷ ltb 17 (s .channel .«cif_count») ∷ not (eqb (refusalOf (s .channel .description)) 0) ∷ []
+
+unfoldable pub badState : State → Bool
+badState s = anyOf (faults s)
+
+-- the sub-channel's values in a CIF; the ring's sixteen times as many; the bytes of a frame
+abbrev pub valuesOf : Description → ℕ
+valuesOf d = 64 * d .«sub_size»
+
+abbrev pub ringRoom : Description → ℕ
+ringRoom d = 1024 * d .«sub_size»
+
+abbrev pub frameRoom : Description → ℕ
+frameRoom d = 3 * d .bitrate
+
+-- 24 × bitrate bits, and the six of the tail: one step each
+abbrev pub stepsOf : ℕ → ℕ
+stepsOf rate = 24 * rate + 6
+
+-- of buffers of these lengths one is shorter than its room
+abbrev pub shortages : Description → ℕ → ℕ → ℕ → ℕ → ℕ → ℕ → ℕ → List Bool
+shortages d cif ring deinterleaved depunctured words bits frame =
+    ltb cif cifBits ∷ ltb ring (ringRoom d) ∷ ltb deinterleaved (valuesOf d) ∷ ltb depunctured (roomOf d) ∷ ltb words (stepsOf (d .bitrate)) ∷ ltb bits (stepsOf (d .bitrate)) ∷ ltb frame (frameRoom d) ∷ []
+
+unfoldable pub lacksRoom : Description → ℕ → ℕ → ℕ → ℕ → ℕ → ℕ → ℕ → Bool
+lacksRoom d cif ring deinterleaved depunctured words bits frame = anyOf (shortages d cif ring deinterleaved depunctured words bits frame)
+
+-- set-up: 1 to 7, then 8
+abbrev pub setUpChecks : Description → ℕ → List ℕ
+setUpChecks d ring = refusalOf d ∷ check 8 (ltb ring (ringRoom d)) ∷ []
+
+unfoldable pub setUpRefusal : Description → ℕ → ℕ
+setUpRefusal d ring = firstOf (setUpChecks d ring)
+
+-- reset: 10, 8
+abbrev pub resetChecks : State → ℕ → List ℕ
+resetChecks s ring = check 10 (badState s) ∷ check 8 (ltb ring (ringRoom (s .channel .description))) ∷ []
+
+unfoldable pub resetRefusal : State → ℕ → ℕ
+resetRefusal s ring = firstOf (resetChecks s ring)
+
+-- feeding: 10, 8, 9
+abbrev pub feedChecks : State → ℕ → ℕ → ℕ → ℕ → ℕ → ℕ → ℕ → ℕ → List ℕ
+feedChecks s soft cif ring deinterleaved depunctured words bits frame =
+    check 10 (badState s) ∷ check 8 (lacksRoom (s .channel .description) cif ring deinterleaved depunctured words bits frame) ∷ check 9 (ltb soft symbolBits) ∷ []
+
+unfoldable pub feedRefusal : State → ℕ → ℕ → ℕ → ℕ → ℕ → ℕ → ℕ → ℕ → ℕ
+feedRefusal s soft cif ring deinterleaved depunctured words bits frame = firstOf (feedChecks s soft cif ring deinterleaved depunctured words bits frame)
+
+-- nothing counted yet, with this ring index and CIF in frame; a fresh state has 0 for both
+unfoldable pub startedAt : Description → ℕ → ℕ → State
+startedAt d x f = record { symbols = 0; «cif_in_frame» = f; channel = record { description = d; «ring_index» = x; «cif_count» = 0; «frames_decoded» = 0 } }
+
+abbrev pub freshState : Description → State
+freshState d = startedAt d 0 0
+
+abbrev pub noDescription : Description
+noDescription = record { «start_addr» = 0; «sub_size» = 0; bitrate = 0; «protection_level» = 0; «eep_option» = 0; «is_eep» = false }
+
+-- the symbol is the last of a CIF
+abbrev pub whole : State → Bool
+whole s = leb 17 (s .symbols)
+
+-- sixteen CIFs went before, so a whole CIF gives a frame
+abbrev pub due : Channel → Bool
+due c = leb 16 (c .«cif_count»)
+
+-- the largest number of frames
+abbrev pub mostFrames : ℕ
+mostFrames = 18446744073709551615
+
+-- after a whole CIF: the index moves on modulo 16, the count is held at 17, the frames at the largest number
+unfoldable pub nextChannel : Channel → Channel
+nextChannel c =
+    record {
+      description = c .description;
+      «ring_index» = (c .«ring_index» + 1) % 16;
+      «cif_count» = min 17 (c .«cif_count» + 1);
+      «frames_decoded» = cond (due c) (min mostFrames (c .«frames_decoded» + 1)) (c .«frames_decoded»);
+    }
+
+-- after a symbol
+unfoldable pub nextState : State → State
+nextState s =
+    cond (whole s) (record { symbols = 0; «cif_in_frame» = (s .«cif_in_frame» + 1) % 4; channel = nextChannel (s .channel) })
+    (record { symbols = s .symbols + 1; «cif_in_frame» = s .«cif_in_frame»; channel = s .channel })

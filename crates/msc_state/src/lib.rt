@@ -1,0 +1,242 @@
+// The state of a sub-channel between symbols: its refusals, and how it moves on (msc/mod.rs).
+use protection::Description;
+use protection::Judged;
+ghost use mathlib.Core.Path.{_≡_};
+ghost use mathlib.Core.Bool.{cond};
+ghost use Prim.Native.Nat.{ℕ, _+_, _%_, _<_, min};
+ghost use lib.Dec.{ltb};
+ghost use Rattle.protection.specs.Refusals.{refusalOf};
+ghost use Rattle.msc_state.specs.States.{badState, lacksRoom, setUpRefusal, resetRefusal, feedRefusal, startedAt, noDescription, mostFrames, nextChannel, nextState};
+
+// What belongs to the sub-channel.
+pub struct Channel {
+    pub description: Description,
+    pub ring_index: u8,
+    pub cif_count: u8,
+    pub frames_decoded: u64,
+}
+
+// What belongs to the CIF, and the sub-channel.
+pub struct State {
+    pub symbols: u8,
+    pub cif_in_frame: u8,
+    pub channel: Channel,
+}
+
+// One more, modulo n.
+fn next(x: u8, n: u8) -> u8
+    requires { ⌜ 0 < n ⌝ }
+    ensures { λ r. ⌜ r ≡ (x + 1) % n ⌝ }
+{
+    (x % n + 1) % n
+}
+
+// One more, held at 17.
+fn counted(count: u8) -> u8
+    ensures { λ r. ⌜ r ≡ min 17 (count + 1) ⌝ }
+{
+    if count < 17 { count + 1 } else { 17 }
+}
+
+// One more, held at the largest.
+fn one_more(frames: u64) -> u64
+    ensures { λ r. ⌜ r ≡ min mostFrames (frames + 1) ⌝ }
+{
+    if frames < 18446744073709551615 {
+        frames + 1
+    } else {
+        frames
+    }
+}
+
+// The first refusal of a description, 0 where there is none.
+fn description_refusal(d: Description) -> u8
+    ensures { λ r. ⌜ r ≡ refusalOf d ⌝ }
+{
+    let judged = protection::judge(d);
+    match judged {
+        Judged::Accepted => 0,
+        Judged::Refused(refusal) => refusal.number,
+    }
+}
+
+fn is_bad(state: State) -> bool
+    ensures { λ r. ⌜ r ≡ badState state ⌝ }
+{
+    let channel = state.channel;
+    let d = channel.description;
+    if state.symbols > 17 {
+        return true;
+    }
+    if state.cif_in_frame > 3 {
+        return true;
+    }
+    if channel.ring_index > 15 {
+        return true;
+    }
+    if channel.cif_count > 17 {
+        return true;
+    }
+    description_refusal(d) != 0
+}
+
+fn lacks_room(
+    d: Description,
+    cif: usize,
+    ring: usize,
+    deinterleaved: usize,
+    depunctured: usize,
+    words: usize,
+    bits: usize,
+    frame: usize,
+) -> bool
+    ensures { λ r. ⌜ r ≡ lacksRoom d cif ring deinterleaved depunctured words bits frame ⌝ }
+{
+    let size = d.sub_size as usize;
+    let rate = d.bitrate as usize;
+    if cif < 55296 {
+        return true;
+    }
+    if ring < 1024 * size {
+        return true;
+    }
+    if deinterleaved < 64 * size {
+        return true;
+    }
+    if depunctured < 96 * rate + 24 {
+        return true;
+    }
+    if words < 24 * rate + 6 {
+        return true;
+    }
+    if bits < 24 * rate + 6 {
+        return true;
+    }
+    frame < 3 * rate
+}
+
+// A refusal where its condition holds, else a later one.
+fn first(holds: bool, number: u8, later: u8) -> u8
+    ensures { λ r. ⌜ r ≡ cond holds number later ⌝ }
+{
+    if holds { number } else { later }
+}
+
+// 1 to 7, then 8.
+pub fn set_up_refusal(d: Description, ring: usize) -> u8
+    ensures { λ r. ⌜ r ≡ setUpRefusal d ring ⌝ }
+{
+    let number = description_refusal(d);
+    if number != 0 {
+        return number;
+    }
+    if ring < 1024 * (d.sub_size as usize) {
+        return 8;
+    }
+    0
+}
+
+// 10, 8.
+pub fn reset_refusal(state: State, ring: usize) -> u8
+    ensures { λ r. ⌜ r ≡ resetRefusal state ring ⌝ }
+{
+    let channel = state.channel;
+    let d = channel.description;
+    let bad = is_bad(state);
+    let need = 1024 * (d.sub_size as usize);
+    first(bad, 10, first(ring < need, 8, 0))
+}
+
+// 10, 8, 9.
+pub fn feed_refusal(
+    state: State,
+    soft: usize,
+    cif: usize,
+    ring: usize,
+    deinterleaved: usize,
+    depunctured: usize,
+    words: usize,
+    bits: usize,
+    frame: usize,
+) -> u8
+    ensures { λ r. ⌜ r ≡ feedRefusal state soft cif ring deinterleaved depunctured words bits frame ⌝ }
+{
+    let channel = state.channel;
+    let d = channel.description;
+    let bad = is_bad(state);
+    let lacks = lacks_room(d, cif, ring, deinterleaved, depunctured, words, bits, frame);
+    first(bad, 10, first(lacks, 8, first(soft < 3072, 9, 0)))
+}
+
+// Nothing counted yet.
+pub fn started(d: Description, ring_index: u8, cif_in_frame: u8) -> State
+    ensures { λ r. ⌜ r ≡ startedAt d «ring_index» «cif_in_frame» ⌝ }
+{
+    State {
+        symbols: 0,
+        cif_in_frame,
+        channel: Channel {
+            description: d,
+            ring_index,
+            cif_count: 0,
+            frames_decoded: 0,
+        },
+    }
+}
+
+// What a refused set-up has.
+pub fn no_description() -> Description
+    ensures { λ r. ⌜ r ≡ noDescription ⌝ }
+{
+    Description {
+        start_addr: 0,
+        sub_size: 0,
+        bitrate: 0,
+        protection_level: 0,
+        eep_option: 0,
+        is_eep: false,
+    }
+}
+
+// One frame more where the count, which has been moved on, is above 16.
+fn frames_after(count: u8, frames: u64) -> u64
+    ensures { λ r. ⌜ r ≡ cond (ltb 16 count) (min mostFrames (frames + 1)) frames ⌝ }
+{
+    if count <= 16 {
+        return frames;
+    }
+    one_more(frames)
+}
+
+// The sub-channel after a whole CIF.
+fn moved_on(channel: Channel) -> Channel
+    ensures { λ r. ⌜ r ≡ nextChannel channel ⌝ }
+{
+    let count = counted(channel.cif_count);
+    let d = channel.description;
+    Channel {
+        description: d,
+        ring_index: next(channel.ring_index, 16),
+        cif_count: count,
+        frames_decoded: frames_after(count, channel.frames_decoded),
+    }
+}
+
+// The state after a symbol.
+pub fn after_symbol(state: State) -> State
+    ensures { λ r. ⌜ r ≡ nextState state ⌝ }
+{
+    let channel = state.channel;
+    if state.symbols < 17 {
+        return State {
+            symbols: state.symbols + 1,
+            cif_in_frame: state.cif_in_frame,
+            channel,
+        };
+    }
+    State {
+        symbols: 0,
+        cif_in_frame: next(state.cif_in_frame, 4),
+        channel: moved_on(channel),
+    }
+}

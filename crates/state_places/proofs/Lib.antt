@@ -1,0 +1,3 @@
+pub mod FeedCalls
+pub mod MscCalls
+pub mod MscUnique
