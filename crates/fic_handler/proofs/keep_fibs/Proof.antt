@@ -4,9 +4,11 @@ use mathlib.Core.Path.{_≡_, refl, sym, _∙_, subst, subst₂}
 use mathlib.Core.List.{List}
 use Prim.Native.Nat.{ℕ, _+_, _*_, _-_, _≤_, _<_}
 use native.Mathlib.Omega.{arith}
-use borrow.Author.Needs.{needs}
+use native.Mathlib.Nat.{le-refl}
 use borrow.Rule.Slice.PartMut.{putMid, same-len-mid}
 use lib.ListN.{length, take, drop, length-drop, length-take}
+use mir.Syntax.{w64}
+use mir.Val.{Fits}
 use Rattle.laws.proofs.Bits.{below-take, below-drop}
 use Rattle.laws.proofs.Slices.{tail-part, tail-put, size-of-part}
 use Rattle.fic_handler.specs.Blocks.{KeptFib, KeptFibs, fibOf, passed, countOf}
@@ -36,6 +38,13 @@ next {bits} {old} {fibs} {new} {kept} {j} {k} e h room v w l =
       fibs-are = subst (KeptFibs bits (j + 1) old (kept + k)) (sym (tail-put (32 * kept) fibs fits new)) (kept-next e h (v .fibs-are) one);
     }
 
+-- the numbers that the code makes, each shown apart from the walk
+bounds : {j : ℕ} → j < 3 → Fits w64 (256 * j) × Fits w64 (256 * j + 256) × Fits w64 (j + 1)
+bounds h = (omega arith, omega arith, omega arith)
+
+nearer : {j : ℕ} → j < 3 → 3 - (j + 1) < 3 - j
+nearer h = omega arith
+
 abbrev Inv-loop : tie.InvT-loop
 Inv-loop bits fibs₀ kept₀ j₀ fibs kept j = Inv bits fibs₀ fibs kept j
 
@@ -47,10 +56,10 @@ unfolding passed countOf
 loop-holds c = record { inside = omega arith; long = refl; fibs-are = record { kept-is = refl; bytes = refl } }
 
 mul-from : tie.Need-mul-from Inv-loop μ-loop
-mul-from c = omega arith
+mul-from c = bounds (c .loop-test .taken) .0
 
 add-to : tie.Need-add-to Inv-loop μ-loop
-add-to c = omega arith
+add-to c = bounds (c .loop-test .taken) .1
 
 mul-at : tie.Need-mul-at Inv-loop μ-loop
 mul-at c = omega (arith, few (c .before .loop .inv))
@@ -59,7 +68,7 @@ sub-keep-fib : tie.Need-sub-keep-fib Inv-loop μ-loop
 sub-keep-fib c = omega arith
 
 part-keep-fib-start : tie.Need-part-keep-fib-start Inv-loop μ-loop
-part-keep-fib-start c = search needs
+part-keep-fib-start c = sub-keep-fib c
 
 part-keep-fib-end : tie.Need-part-keep-fib-end Inv-loop μ-loop
 part-keep-fib-end c = omega arith
@@ -68,10 +77,10 @@ sub-keep-fib-2 : tie.Need-sub-keep-fib-2 Inv-loop μ-loop
 sub-keep-fib-2 c = omega (arith, few (c .before .before .loop .inv), c .before .before .loop .inv .long)
 
 part-keep-fib-start-2 : tie.Need-part-keep-fib-start-2 Inv-loop μ-loop
-part-keep-fib-start-2 c = omega (arith, few (c .before .before .loop .inv), c .before .before .loop .inv .long)
+part-keep-fib-start-2 c = sub-keep-fib-2 c
 
 part-keep-fib-end-2 : tie.Need-part-keep-fib-end-2 Inv-loop μ-loop
-part-keep-fib-end-2 c = search needs
+part-keep-fib-end-2 c = le-refl (length (c .before .before .loop .fibs))
 
 keep-fib-requires : tie.Need-keep-fib-requires Inv-loop μ-loop
 keep-fib-requires c κs =
@@ -84,16 +93,16 @@ add-kept : tie.Need-add-kept Inv-loop μ-loop
 add-kept c = omega (arith, few (c .before .before .before .before .before .before .loop .inv), kept-lt (c .before .before .keep-fib .ensures))
 
 add-j : tie.Need-add-j Inv-loop μ-loop
-add-j c = omega arith
+add-j c = bounds (c .before .before .before .before .before .loop-test .taken) .2
 
 loop-less : tie.Need-loop-less Inv-loop μ-loop
-loop-less c = omega arith
+loop-less c = nearer (c .before .before .before .before .before .loop-test .taken)
 
 loop-again : tie.Need-loop-again Inv-loop μ-loop
 loop-again c =
     let turn = c .before .before .before .before .before .before in
     let start = turn .before .before .before in
-    next (start .pre .0 .0) (omega arith) (start .pre .0 .1) (turn .loop .inv) (c .before .before .keep-fib .ensures) (c .before .before .keep-fib .kept .1 .0)
+    next (start .pre .0 .0) (c .before .before .before .before .before .loop-test .taken) (start .pre .0 .1) (turn .loop .inv) (c .before .before .keep-fib .ensures) (c .before .before .keep-fib .kept .1 .0)
 
 same-length : tie.Need-same-length Inv-loop μ-loop
 same-length c = c .before .loop .inv .long

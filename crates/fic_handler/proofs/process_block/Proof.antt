@@ -1,7 +1,8 @@
 -- `fic_handler::process_block` meets its contract: what its three steps leave, put together.
 -- Assumes nothing.
-use borrow.Author.Needs.{needs}
-use mathlib.Core.Path.{sym, ap, _∙_, subst}
+use mathlib.Core.Path.{_≡_, sym, ap, _∙_, subst}
+use Prim.Native.Nat.{ℕ, _≤_}
+use native.Mathlib.Omega.{arith}
 use lib.ListN.{length}
 use Rattle.laws.specs.Bits.{AreBits}
 use Rattle.fic_handler.specs.Blocks.{lent}
@@ -9,29 +10,39 @@ use Rattle.fic_handler.proofs.Blocks.{data-front, data-length, data-are
 use Rattle.fic_handler.proofs.process_block.Statement.{statement}
 use Rattle.fic_handler.proofs.process_block.Tie as tie
 
+-- what the parts ask for, shown apart from the walk
+from-0 : (n : ℕ) → 0 ≤ n
+from-0 n = omega arith
+
+still : {a b k : ℕ} → a ≡ b → k ≤ b → k ≤ a
+still e h = omega arith
+
+data-inside : {a b : ℕ} → a ≡ b → 774 ≤ b → 768 ≤ a
+data-inside e h = omega arith
+
 depuncture-fic-requires : tie.Need-depuncture-fic-requires
-depuncture-fic-requires c κs = search needs
+depuncture-fic-requires c κs = tt
 
 sub-decode-block : tie.Need-sub-decode-block
-sub-decode-block c = search needs
+sub-decode-block c = from-0 3096
 
 part-decode-block-start : tie.Need-part-decode-block-start
-part-decode-block-start c = search needs
+part-decode-block-start c = from-0 3096
 
 part-decode-block-end : tie.Need-part-decode-block-end
-part-decode-block-end c = search needs
+part-decode-block-end c = still (c .before .before .depuncture-fic .kept .1 .0) (c .before .before .before .before .before .before .before .pre .values)
 
 decode-block-requires : tie.Need-decode-block-requires
-decode-block-requires c κs = search needs
+decode-block-requires c κs = let room = c .before .before .before .before .before .before .before .before .before .before .pre in (c .before .before .decode-block-arg .given .2, (room .choices, room .places))
 
 sub-keep-fibs : tie.Need-sub-keep-fibs
-sub-keep-fibs c = search needs
+sub-keep-fibs c = from-0 768
 
 part-keep-fibs-start : tie.Need-part-keep-fibs-start
-part-keep-fibs-start c = search needs
+part-keep-fibs-start c = from-0 768
 
 part-keep-fibs-end : tie.Need-part-keep-fibs-end
-part-keep-fibs-end c = search needs
+part-keep-fibs-end c = data-inside (c .before .before .before .before .before .decode-block .kept .1 .1 .0) (c .before .before .before .before .before .before .before .before .before .before .before .before .before .before .before .before .pre .places)
 
 keep-fibs-requires : tie.Need-keep-fibs-requires
 keep-fibs-requires c κs =
@@ -39,16 +50,16 @@ keep-fibs-requires c κs =
     ((ap length (data-front b) ∙ data-length (b .decodes), c .before .before .before .before .before .before .before .before .before .before .before .before .before .before .before .before .before .before .pre .out), subst AreBits (sym (data-front b)) (data-are (b .decodes)))
 
 same-length : tie.Need-same-length
-same-length c = search needs
+same-length c = c .before .before .before .before .before .before .before .before .before .before .before .before .before .before .before .before .depuncture-fic .kept .1 .0
 
 same-length-2 : tie.Need-same-length-2
-same-length-2 c = search needs
+same-length-2 c = c .before .before .before .before .before .before .before .before .before .before .decode-block .kept .1 .0
 
 same-length-3 : tie.Need-same-length-3
-same-length-3 c = search needs
+same-length-3 c = c .before .before .before .before .before .before .before .before .before .before .decode-block .kept .1 .1 .0
 
 same-length-4 : tie.Need-same-length-4
-same-length-4 c = search needs
+same-length-4 c = c .before .before .keep-fibs .kept .1 .0
 
 returns : tie.Need-returns
 returns c =

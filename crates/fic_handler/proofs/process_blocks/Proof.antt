@@ -4,9 +4,12 @@ use mathlib.Core.Path.{_≡_, refl, sym, ap, _∙_, subst, subst₂}
 use mathlib.Core.List.{List, [], _∷_, _++_}
 use Prim.Native.Nat.{ℕ, _+_, _*_, _-_, _<_, _≤_}
 use native.Mathlib.Omega.{arith}
+use native.Mathlib.Nat.{le-refl}
 use borrow.Author.Needs.{needs}
 use borrow.Rule.Slice.PartMut.{putMid, same-len-mid}
 use lib.IntN.{ℤ}
+use mir.Syntax.{w64}
+use mir.Val.{Fits}
 use lib.ListN.{length, set, take, drop, length-append, length-take, length-drop}
 use Rattle.laws.specs.Lists.{listFrom}
 use Rattle.laws.proofs.Slices.{tail-part, tail-put}
@@ -39,6 +42,28 @@ block-length {n} {b} x y z room h e = ap length e ∙ simp (length-take, length-
 
 at-most-three : {values : List ℤ} {before after : Lent} {count : ℕ} {q : Quality} → BlockProcessed values before count q after → count ≤ 3
 at-most-three p = omega (arith, p .count-is, count-le (dataBits (p .block .decoded)) 3)
+
+block-inside : {n b : ℕ} {before : Lent} (x y z : List ℤ) → Room n (joined x y z) before → b < n → (2304 * b + 2304 ≤ length x + (length y + length z)) × (2304 * b < 10000)
+block-inside x y z room h = (omega (arith, room .whole, joined-length x y z), omega (arith, room .few))
+
+-- the bounds of the numbers that the code makes, each shown apart from the walk
+bounds : {n b : ℕ} → n ≤ 4 → b < n → (b < 4) × Fits w64 (2304 * b) × Fits w64 (b * 8) × Fits w64 (b * 16) × Fits w64 (b + 1)
+bounds few h = (omega arith, omega arith, omega arith, omega arith, omega arith)
+
+sum-bounds : {n b sum count : ℕ} → n ≤ 4 → b < n → sum ≤ 3 * b → count ≤ 3 → Fits w64 (32 * sum) × Fits w64 (sum + count)
+sum-bounds few h s k = (omega arith, omega arith)
+
+start-inside : {xs : List ℤ} {n : ℕ} {before after : Lent} {passed : List ℕ} {quality : List Quality} {sum b : ℕ} → Room n xs before → b < n → Inv xs n before after passed quality sum b → 32 * sum ≤ length (after .fibs)
+start-inside r h v = omega (arith, room-left r h v)
+
+tail-room : {xs : List ℤ} {n : ℕ} {before after : Lent} {passed : List ℕ} {quality : List Quality} {sum b : ℕ} → Room n xs before → b < n → Inv xs n before after passed quality sum b → 96 ≤ length (take (length (after .fibs) - 32 * sum) (drop (32 * sum) (after .fibs)))
+tail-room r h v = simp (length-take, length-drop) (omega (arith, room-left r h v))
+
+nearer : {n b : ℕ} → b < n → n - (b + 1) < n - b
+nearer h = omega arith
+
+one-more : {n b : ℕ} → b < n → b + 1 ≤ n
+one-more h = omega arith
 
 -- one block more: the part of the output from byte 32 sum on was lent
 next : {xs : List ℤ} {n b sum count : ℕ} {before after : Lent} {passed : List ℕ} {quality : List Quality} {q : Quality} {block : List ℤ} {dep : List ℤ} {ws bs new : List ℕ} → b + 1 ≤ n → Room n xs before → b < n
@@ -107,32 +132,13 @@ loop-holds c =
     }
 
 mul-gather : tie.Need-mul-gather Inv-loop μ-loop
-mul-gather c =
-    let turn = c .before in
-    let taken = c .loop-test .taken in
-    let start = turn .before .before .before .before .before in
-    let v = turn .loop .inv in
-    let room = start .pre in
-    omega (arith, room .few)
+mul-gather c = bounds (c .before .before .before .before .before .before .pre .few) (c .loop-test .taken) .1
 
 gather-requires : tie.Need-gather-requires Inv-loop μ-loop
-gather-requires c κs =
-    let turn = c .before in
-    let taken = c .loop-test .taken in
-    let start = turn .before .before .before .before .before in
-    let v = turn .loop .inv in
-    let room = start .pre in
-    let all = joined-length (start .args .first .now) (start .args .second .now) (start .args .third .now) in
-    omega (arith, room .few, room .whole)
+gather-requires c κs = let a = c .before .before .before .before .before .before .args in block-inside (a .first .now) (a .second .now) (a .third .now) (c .before .before .before .before .before .before .pre) (c .loop-test .taken)
 
 mul-at : tie.Need-mul-at Inv-loop μ-loop
-mul-at c =
-    let turn = c .before .before in
-    let taken = c .before .loop-test .taken in
-    let start = turn .before .before .before .before .before in
-    let v = turn .loop .inv in
-    let room = start .pre in
-    omega (arith, room .few, v .run .few)
+mul-at c = sum-bounds (c .before .before .before .before .before .before .before .pre .few) (c .before .loop-test .taken) (c .before .before .loop .inv .run .few) (le-refl 3) .0
 
 slice-aggregate-process-block : tie.Need-slice-aggregate-process-block Inv-loop μ-loop
 slice-aggregate-process-block c =
@@ -144,26 +150,13 @@ slice-aggregate-process-block c =
     sym (block-length (start .args .first .now) (start .args .second .now) (start .args .third .now) room taken (c .before .gather .ensures))
 
 sub-process-block : tie.Need-sub-process-block Inv-loop μ-loop
-sub-process-block c =
-    let turn = c .before .before .before .before .before .before in
-    let taken = c .before .before .before .before .before .loop-test .taken in
-    let start = turn .before .before .before .before .before in
-    let v = turn .loop .inv in
-    let room = start .pre in
-    omega (arith, room-left room taken v)
+sub-process-block c = start-inside (c .before .before .before .before .before .before .before .before .before .before .before .pre) (c .before .before .before .before .before .loop-test .taken) (c .before .before .before .before .before .before .loop .inv)
 
 part-process-block-start : tie.Need-part-process-block-start Inv-loop μ-loop
-part-process-block-start c =
-    let turn = c .before .before .before .before .before .before in
-    let taken = c .before .before .before .before .before .loop-test .taken in
-    let start = turn .before .before .before .before .before in
-    let v = turn .loop .inv in
-    let room = start .pre in
-    omega (arith, room-left room taken v)
+part-process-block-start c = sub-process-block c
 
 part-process-block-end : tie.Need-part-process-block-end Inv-loop μ-loop
-part-process-block-end c =
-    search needs
+part-process-block-end c = le-refl (length (c .before .before .before .before .before .before .loop .fibs))
 
 process-block-requires : tie.Need-process-block-requires Inv-loop μ-loop
 process-block-requires c κs =
@@ -177,71 +170,29 @@ process-block-requires c κs =
       values = subst (λ (m : ℕ). 3096 ≤ m) (sym (v .long-depunctured)) (room .values);
       choices = subst (λ (m : ℕ). 774 ≤ m) (sym (v .long-words)) (room .choices);
       places = subst (λ (m : ℕ). 774 ≤ m) (sym (v .long-bits)) (room .places);
-      out = rw (ap length (tail-part (32 * turn .loop .sum) (turn .loop .fibs) (omega (arith, room-left room taken v)))) (simp length-drop (omega (arith, room-left room taken v)));
+      out = tail-room room taken v;
     }
 
 mul-passed : tie.Need-mul-passed Inv-loop μ-loop
-mul-passed c =
-    let turn = c .before .before .before .before .before .before .before .before .before .before .before .before .before .before .before in
-    let taken = c .before .before .before .before .before .before .before .before .before .before .before .before .before .before .loop-test .taken in
-    let start = turn .before .before .before .before .before in
-    let v = turn .loop .inv in
-    let room = start .pre in
-    omega (arith, room .few)
+mul-passed c = bounds (c .before .before .before .before .before .before .before .before .before .before .before .before .before .before .before .before .before .before .before .before .pre .few) (c .before .before .before .before .before .before .before .before .before .before .before .before .before .before .loop-test .taken) .2
 
 array-write-passed : tie.Need-array-write-passed Inv-loop μ-loop
-array-write-passed c =
-    let turn = c .before .before .before .before .before .before .before .before .before .before .before .before .before .before .before in
-    let taken = c .before .before .before .before .before .before .before .before .before .before .before .before .before .before .loop-test .taken in
-    let start = turn .before .before .before .before .before in
-    let v = turn .loop .inv in
-    let room = start .pre in
-    omega (arith, room .few)
+array-write-passed c = bounds (c .before .before .before .before .before .before .before .before .before .before .before .before .before .before .before .before .before .before .before .before .pre .few) (c .before .before .before .before .before .before .before .before .before .before .before .before .before .before .loop-test .taken) .0
 
 mul-quality : tie.Need-mul-quality Inv-loop μ-loop
-mul-quality c =
-    let turn = c .before .before .before .before .before .before .before .before .before .before .before .before .before .before .before .before in
-    let taken = c .before .before .before .before .before .before .before .before .before .before .before .before .before .before .before .loop-test .taken in
-    let start = turn .before .before .before .before .before in
-    let v = turn .loop .inv in
-    let room = start .pre in
-    omega (arith, room .few)
+mul-quality c = bounds (c .before .before .before .before .before .before .before .before .before .before .before .before .before .before .before .before .before .before .before .before .before .pre .few) (c .before .before .before .before .before .before .before .before .before .before .before .before .before .before .before .loop-test .taken) .3
 
 array-set-from-quality : tie.Need-array-set-from-quality Inv-loop μ-loop
-array-set-from-quality c =
-    let turn = c .before .before .before .before .before .before .before .before .before .before .before .before .before .before .before .before in
-    let taken = c .before .before .before .before .before .before .before .before .before .before .before .before .before .before .before .loop-test .taken in
-    let start = turn .before .before .before .before .before in
-    let v = turn .loop .inv in
-    let room = start .pre in
-    omega (arith, room .few)
+array-set-from-quality c = bounds (c .before .before .before .before .before .before .before .before .before .before .before .before .before .before .before .before .before .before .before .before .before .pre .few) (c .before .before .before .before .before .before .before .before .before .before .before .before .before .before .before .loop-test .taken) .0
 
 add-sum : tie.Need-add-sum Inv-loop μ-loop
-add-sum c =
-    let turn = c .before .before .before .before .before .before .before .before .before .before .before .before .before .before .before .before .before in
-    let taken = c .before .before .before .before .before .before .before .before .before .before .before .before .before .before .before .before .loop-test .taken in
-    let start = turn .before .before .before .before .before in
-    let v = turn .loop .inv in
-    let room = start .pre in
-    omega (arith, room .few, v .run .few, at-most-three (c .before .before .before .before .before .before .before .before .before .process-block .ensures))
+add-sum c = sum-bounds (c .before .before .before .before .before .before .before .before .before .before .before .before .before .before .before .before .before .before .before .before .before .before .pre .few) (c .before .before .before .before .before .before .before .before .before .before .before .before .before .before .before .before .loop-test .taken) (c .before .before .before .before .before .before .before .before .before .before .before .before .before .before .before .before .before .loop .inv .run .few) (at-most-three (c .before .before .before .before .before .before .before .before .before .process-block .ensures)) .1
 
 add-b : tie.Need-add-b Inv-loop μ-loop
-add-b c =
-    let turn = c .before .before .before .before .before .before .before .before .before .before .before .before .before .before .before .before .before in
-    let taken = c .before .before .before .before .before .before .before .before .before .before .before .before .before .before .before .before .loop-test .taken in
-    let start = turn .before .before .before .before .before in
-    let v = turn .loop .inv in
-    let room = start .pre in
-    omega (arith, room .few)
+add-b c = bounds (c .before .before .before .before .before .before .before .before .before .before .before .before .before .before .before .before .before .before .before .before .before .before .pre .few) (c .before .before .before .before .before .before .before .before .before .before .before .before .before .before .before .before .loop-test .taken) .4
 
 loop-less : tie.Need-loop-less Inv-loop μ-loop
-loop-less c =
-    let turn = c .before .before .before .before .before .before .before .before .before .before .before .before .before .before .before .before .before in
-    let taken = c .before .before .before .before .before .before .before .before .before .before .before .before .before .before .before .before .loop-test .taken in
-    let start = turn .before .before .before .before .before in
-    let v = turn .loop .inv in
-    let room = start .pre in
-    omega arith
+loop-less c = nearer (c .before .before .before .before .before .before .before .before .before .before .before .before .before .before .before .before .loop-test .taken)
 
 loop-again : tie.Need-loop-again Inv-loop μ-loop
 loop-again c =
@@ -251,7 +202,7 @@ loop-again c =
     let v = turn .loop .inv in
     let room = start .pre in
     let done = c .before .before .before .before .before .before .before .before .before .process-block in
-    next (omega arith) room taken (c .before .before .before .before .before .before .before .before .before .before .before .before .before .before .before .gather .ensures) v (done .ensures) (done .kept .1 .0) (done .kept .1 .1 .0) (done .kept .1 .1 .1 .0) (done .kept .1 .1 .1 .1 .0)
+    next (one-more taken) room taken (c .before .before .before .before .before .before .before .before .before .before .before .before .before .before .before .gather .ensures) v (done .ensures) (done .kept .1 .0) (done .kept .1 .1 .0) (done .kept .1 .1 .1 .0) (done .kept .1 .1 .1 .1 .0)
 
 same-length : tie.Need-same-length Inv-loop μ-loop
 same-length c =

@@ -3,7 +3,6 @@
 use mathlib.Core.Path.{_≡_, sym, _∙_}
 use Rattle.figure_places.specs.Fic.{Figures, figures, fewFigures}
 use Rattle.figure_places.proofs.FicCalls.{enough-figures, fic-away, fic-told}
-use borrow.Author.Needs.{needs}
 use Rattle.figure_places.proofs.process_fic.Statement.{statement}
 use Rattle.figure_places.proofs.process_fic.Tie as tie
 
@@ -15,46 +14,53 @@ given s = figures (s .args .counts .now) (s .args .metrics .now) (s .args .perce
 none : (c : tie.Else1) → fewFigures (given (c .before .before .before .before .before .before .before)) ≡ 0
 none c = sym (c .before .figures-refusal .ensures) ∙ c .if1 .left
 
+-- the calls, from the end
+abbrev put : tie.After-slice-known10 → tie.After-put-fic
+put c = c .before .before .before .before .before
+
+abbrev made : tie.After-slice-known10 → tie.After-process-fic
+made c = put c .before .before .before .before .before .before .before .before .before .before .before
+
 figures-refusal-requires : tie.Need-figures-refusal-requires
-figures-refusal-requires c κs = search needs
+figures-refusal-requires c κs = tt
 
 no-figures-requires : tie.Need-no-figures-requires
-no-figures-requires c κs = search needs
+no-figures-requires c κs = tt
 
 returns : tie.Need-returns
 returns c = fic-away (given (c .before .before .before .before .before .before .before .before)) _ (c .before .before .figures-refusal .ensures) (c .before .if1 .taken) (c .no-figures .ensures)
 
 process-fic-requires : tie.Need-process-fic-requires
-process-fic-requires c κs = search needs
+process-fic-requires c κs = tt
 
 put-fic-requires : tie.Need-put-fic-requires
 put-fic-requires c κs = enough-figures _ (none (c .before .before .before .before .before .before .before .before .before .before .before .before .before .before .before))
 
 same-length : tie.Need-same-length
-same-length c = search needs
+same-length c = made c .process-fic .kept .1 .1 .1 .0
 
 same-length-2 : tie.Need-same-length-2
-same-length-2 c = search needs
+same-length-2 c = made c .process-fic .kept .1 .1 .1 .1 .0
 
 same-length-3 : tie.Need-same-length-3
-same-length-3 c = search needs
+same-length-3 c = made c .process-fic .kept .1 .1 .1 .1 .1 .0
 
 same-length-4 : tie.Need-same-length-4
-same-length-4 c = search needs
+same-length-4 c = made c .process-fic .kept .1 .1 .1 .1 .1 .1 .0
 
 same-length-5 : tie.Need-same-length-5
-same-length-5 c = search needs
+same-length-5 c = put c .put-fic .kept .1 .0
 
 same-length-6 : tie.Need-same-length-6
-same-length-6 c = search needs
+same-length-6 c = put c .put-fic .kept .1 .1 .0
 
 same-length-7 : tie.Need-same-length-7
-same-length-7 c = search needs
+same-length-7 c = put c .put-fic .kept .1 .1 .1 .0
 
 returns-2 : tie.Need-returns-2
 returns-2 c =
-    let p = c .before .before .before .before .before in
-    let w = p .before .before .before .before .before .before .before .before .before .before .before in
+    let p = put c in
+    let w = made c in
     let e = w .before .before .before .before .before in
     fic-told (w .process-fic .result) (given (e .before .before .before .before .before .before .before)) (none e) (w .process-fic .ensures) _ _ (p .put-fic .ensures)
 
