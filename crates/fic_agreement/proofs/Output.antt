@@ -7,17 +7,14 @@ use Prim.Native.Nat.{ℕ, zero, suc, _+_, _*_, _<_, _≤_}
 use native.Mathlib.Omega.{arith}
 use native.Mathlib.Decide.{ℕ-discrete, decLt}
 use borrow.Author.Tests.{lt-ltb}
-use lib.Dec.{ltb}
 use lib.ListN.{length, getD, take, drop, length-append}
 use lib.Seq.{take-at, drop-at}
 use lib.IntN.{ℤ}
-use Rattle.laws.proofs.Lists.{listOf-at}
 use Rattle.refusal.specs.Outcome.{gives}
 use Rattle.fic_handler.specs.declared.Fic.{Fic}
 use Rattle.fic_handler.specs.Blocks.{joined, blocksIn, dataBits, passed, countOf, Block, IsBlock, Lent, written, total}
 use Rattle.fic_handler.specs.Promise.{refusalOf, answerOf, four, Processed, Outcomes, FicPromise}
-use Rattle.fic_handler.proofs.Blocks.{data-length}
-use Rattle.fic_handler.proofs.Fibs.{passed-length}
+use Rattle.fic_handler.proofs.Run.{four-at, written-length}
 use Rattle.fic_handler.proofs.Refusals.{first-long, second-long, third-long}
 use Rattle.fic_agreement.specs.Heard.{Heard, passedBefore, ComeOut}
 use Rattle.fic_agreement.specs.Sender.{Data, fibsOf}
@@ -50,13 +47,6 @@ module _ (k : ℕ → Block) where
                 ∙ ap (λ (r : List ℕ). written k b ++ r) (append-assoc (bytesBy b) (s .others) (bytesBy n));
           }
 
-  written-length : {xs : List ℤ} (n : ℕ) → ((b : ℕ) → b < n → IsBlock xs b (k b)) → length (written k n) ≡ 32 * total k n
-  unfolding written total
-  written-length zero each = refl
-  written-length (suc n) each =
-      length-append (written k n) (bytesBy n)
-      ∙ omega (arith, written-length n (λ b l. each b (omega arith)), passed-length (dataBits (k n .decoded)) 3 (data-length (each n (omega arith) .decodes)) (omega arith))
-
   -- a block's own 96 bytes, where all three passed
   own-bytes : {xs : List ℤ} (n b : ℕ) → b < n → ((i : ℕ) → i < n → IsBlock xs i (k i)) → length (bytesBy b) ≡ 96 → (rest : List ℕ) → take 96 (drop (32 * total k b) (written k n ++ rest)) ≡ bytesBy b
   own-bytes n b h each long rest =
@@ -64,13 +54,13 @@ module _ (k : ℕ → Block) where
       let all : written k n ++ rest ≡ written k b ++ (bytesBy b ++ (s .others ++ rest)) =
       ap (λ (r : List ℕ). r ++ rest) (s .is) ∙ append-assoc (written k b) (bytesBy b ++ s .others) rest ∙ ap (λ (r : List ℕ). written k b ++ r) (append-assoc (bytesBy b) (s .others) rest) in
       ap (λ (r : List ℕ). take 96 (drop (32 * total k b) r)) all
-      ∙ ap (take 96) (drop-at (written k b) (bytesBy b ++ (s .others ++ rest)) (32 * total k b) (written-length b (λ i l. each i (omega arith))))
+      ∙ ap (take 96) (drop-at (written k b) (bytesBy b ++ (s .others ++ rest)) (32 * total k b) (written-length k b (λ i l. each i (omega arith))))
       ∙ take-at (bytesBy b) (s .others ++ rest) 96 long
 
 -- ---- the counts
 
 count-at : (n b : ℕ) (f : ℕ → ℕ) → b < n → b < 4 → getD (four n f 0) b 0 ≡ f b
-count-at n b f h l = listOf-at 4 (λ (i : ℕ). cond (ltb i n) (f i) 0) 0 b l ∙ ap (λ (t : Bool). cond t (f b) 0) (lt-ltb b n h)
+count-at n b f h l = four-at 0 n f 0 b l ∙ ap (λ (t : Bool). cond t (f b) 0) (lt-ltb b n h)
 
 before-is : (k : ℕ → Block) (n b : ℕ) → b ≤ n → b ≤ 4 → passedBefore (four n (λ (i : ℕ). countOf (dataBits (k i .decoded)) 3) 0) b ≡ total k b
 unfolding passedBefore total

@@ -29,7 +29,7 @@ module _ {ℓ} {A : Type ℓ} (d : A) where
   four-length : (n : ℕ) (f : ℕ → A) (absent : A) → length (four n f absent) ≡ 4
   four-length n f absent = length-listOf 4 (λ (b : ℕ). cond (ltb b n) (f b) absent)
 
-  four-at : (n : ℕ) (f : ℕ → A) (absent : A) (i : ℕ) → i < 4 → getD (four n f absent) i d ≡ cond (ltb i n) (f i) absent
+  pub four-at : (n : ℕ) (f : ℕ → A) (absent : A) (i : ℕ) → i < 4 → getD (four n f absent) i d ≡ cond (ltb i n) (f i) absent
   four-at n f absent i h = listOf-at 4 (λ (b : ℕ). cond (ltb b n) (f b) absent) d i h
 
   -- block n takes its value, and those before it keep theirs
@@ -75,6 +75,14 @@ unfolding written
 written-ext k l zero h = refl
 written-ext k l (suc n) h = ap₂ (λ (a : List ℕ) (b : Block). a ++ passed (dataBits (b .decoded)) 3) (written-ext k l n (λ i g. h i (omega arith))) (h n (omega arith))
 
+-- 32 bytes for each FIB that passed
+pub written-length : (k : ℕ → Block) {xs : List ℤ} (n : ℕ) → ((b : ℕ) → b < n → IsBlock xs b (k b)) → length (written k n) ≡ 32 * total k n
+unfolding written total
+written-length k zero each = refl
+written-length k (suc n) each =
+    length-append (written k n) (passed (dataBits (k n .decoded)) 3)
+    ∙ omega (arith, written-length k n (λ b l. each b (omega arith)), passed-length (dataBits (k n .decoded)) 3 (data-length (each n (omega arith) .decodes)) (omega arith))
+
 -- what the run has done after n blocks
 pub record Run (xs : List ℤ) (before : Lent) (n sum : ℕ) (counts : List ℕ) (qualities : List Quality) (after : Lent) : Type 0 where
   pub block : ℕ → Block
@@ -86,7 +94,6 @@ pub record Run (xs : List ℤ) (before : Lent) (n sum : ℕ) (counts : List ℕ)
   pub depunctured-are : after .depunctured ≡ workAfter xs block n before .depunctured
   pub words-are : after .words ≡ workAfter xs block n before .words
   pub bits-are : after .bits ≡ workAfter xs block n before .bits
-  pub written-length : length (written block n) ≡ 32 * sum
   pub fibs-are : after .fibs ≡ written block n ++ drop (32 * sum) (before .fibs)
 
 pub run-none : (xs : List ℤ) (before : Lent) (counts : List ℕ) (qualities : List Quality) → counts ≡ four 0 (λ (b : ℕ). 0) 0 → qualities ≡ four 0 (λ (b : ℕ). nothing) nothing → Run xs before 0 0 counts qualities before
@@ -102,7 +109,6 @@ run-none xs before counts qualities c q =
       depunctured-are = refl;
       words-are = refl;
       bits-are = refl;
-      written-length = refl;
       fibs-are = refl;
     }
 
@@ -168,14 +174,14 @@ module _ (xs : List ℤ) (before : Lent) (n sum count : ℕ) (counts : List ℕ)
   unfolding written
   next-written = ap (written blocks) (add-one n) ∙ ap₂ (λ (a : List ℕ) (b : Block). a ++ passed (dataBits (b .decoded)) 3) (sym (written-ext (r .block) blocks n earlier)) last
 
-  passed-size : length (passed (dataBits (p .block .decoded)) 3) ≡ 32 * count
-  passed-size = passed-length (dataBits (p .block .decoded)) 3 (data-length (p .decodes)) (omega arith) ∙ ap (λ (m : ℕ). 32 * m) (sym (p .count-is))
+  long : length (written (r .block) n) ≡ 32 * sum
+  long = written-length (r .block) n (r .each) ∙ ap (λ (m : ℕ). 32 * m) (sym (r .sum-is))
 
   front : take (32 * sum) (after .fibs) ≡ written (r .block) n
-  front = ap (take (32 * sum)) (r .fibs-are) ∙ take-at (written (r .block) n) (drop (32 * sum) (before .fibs)) (32 * sum) (r .written-length)
+  front = ap (take (32 * sum)) (r .fibs-are) ∙ take-at (written (r .block) n) (drop (32 * sum) (before .fibs)) (32 * sum) long
 
   back : drop (32 * sum) (after .fibs) ≡ drop (32 * sum) (before .fibs)
-  back = ap (drop (32 * sum)) (r .fibs-are) ∙ drop-at (written (r .block) n) (drop (32 * sum) (before .fibs)) (32 * sum) (r .written-length)
+  back = ap (drop (32 * sum)) (r .fibs-are) ∙ drop-at (written (r .block) n) (drop (32 * sum) (before .fibs)) (32 * sum) long
 
   at-end : 32 * sum + 32 * count ≡ 32 * (sum + count)
   at-end = omega arith
@@ -209,6 +215,5 @@ module _ (xs : List ℤ) (before : Lent) (n sum count : ℕ) (counts : List ℕ)
         bits-are =
             p .bits-are ∙ ap₂ (λ (k : Block) (l : List ℕ). (dataBits (k .decoded) ++ drop 768 (k .decoded)) ++ l) (sym last) (ap (drop 774) (r .bits-are) ∙ rest-bits xs (r .block) n before (r .each))
             ∙ ap (λ (m : ℕ). workAfter xs blocks m before .bits) (sym (add-one n));
-        written-length = ap length next-written ∙ length-append (written (r .block) n) (passed (dataBits (p .block .decoded)) 3) ∙ ap₂ (λ (a b : ℕ). a + b) (r .written-length) passed-size ∙ at-end;
         fibs-are = next-fibs;
       }

@@ -4,7 +4,7 @@ use mathlib.Core.Bool.{Bool, cond}
 use mathlib.Core.List.{List, [], _++_}
 use Prim.Native.Nat.{ℕ, zero, suc, _+_, _*_, _/_, _≤_}
 use lib.ListN.{length, take, drop}
-use lib.IntN.{ℤ, pos}
+use lib.IntN.{ℤ}
 use Rattle.laws.specs.Words.{pickN}
 use Rattle.en300401.specs.Bytes.{bytesOfBits}
 use Rattle.en300401.specs.Crc.{fibValid}
@@ -13,8 +13,6 @@ use Rattle.en300401.specs.Puncturing.{mask, depuncture, ficProfile}
 use Rattle.en300401.specs.Trellis.{zeroEnd}
 use Rattle.quality.specs.declared.Quality.{Quality}
 use Rattle.quality.specs.Figures.{qualityOf}
-use Rattle.viterbi.specs.declared.Decoding.{Decoding}
-use Rattle.viterbi.specs.declared.Decoding.the-variants.{Done, Refused}
 use Rattle.viterbi.specs.Result.{Decodes, ChoiceWords}
 
 -- three symbols, joined in order
@@ -80,11 +78,6 @@ written k (suc n) = written k n ++ passed (dataBits (k n .decoded)) 3
 unfoldable pub total : (ℕ → Block) → ℕ → ℕ
 total k zero = 0
 total k (suc n) = total k n + countOf (dataBits (k n .decoded)) 3
-
--- the metric of a decoding that was not refused
-abbrev pub metricOf : Decoding → ℤ
-metricOf (Done s) = s .metric
-metricOf (Refused r) = pos 0
 
 -- the 3,096 values xs of a block, decoded: its quality, its choices, and its bits, the data bits dispersed and the tail as decoded
 pub record BlockDecoded (xs : List ℤ) (words bits : List ℕ) (q : Quality) (words' bits' : List ℕ) : Type 0 where

@@ -17,10 +17,10 @@ use Rattle.packing.specs.Bytes.{bytesOf, packed}
 use Rattle.quality.specs.Figures.{sumAbs, percentOf, qualityOf, measured}
 use Rattle.quality.specs.declared.Measured.{Measured}
 use Rattle.quality.specs.declared.Measured.the-variants.{Is, «Refused» as not-measured}
-use Rattle.viterbi.specs.Decoders.{steps, answerOf, Decoded}
+use Rattle.viterbi.specs.Decoders.{steps, answerOf, Decoded, metricOf}
 use Rattle.viterbi.specs.declared.Decoding.{Decoding}
 use Rattle.viterbi.proofs.Result.{Left, Finished, finished, bits-one, metric-one, words-one, decoded-length}
-use Rattle.msc_handler.specs.Frames.{frameBits, Framed, FrameRoom, metricOf, percentIn}
+use Rattle.msc_handler.specs.Frames.{frameBits, Framed, FrameRoom, percentIn}
 use Rattle.msc_state.specs.States.{stepsOf}
 
 -- what is packed, where it fits

@@ -14,8 +14,6 @@ use Rattle.quality.specs.Figures.{sumAbs, percentOf}
 use Rattle.quality.specs.declared.Measured.{Measured}
 use Rattle.quality.specs.declared.Measured.the-variants.{Is, «Refused» as not-measured}
 use Rattle.viterbi.specs.Result.{Decodes, ChoiceWords}
-use Rattle.viterbi.specs.declared.Decoding.{Decoding}
-use Rattle.viterbi.specs.declared.Decoding.the-variants.{Done, «Refused» as not-decoded}
 
 -- the first 24 × bitrate of the decoded bits, dispersed afresh
 abbrev pub frameBits : ℕ → List ℕ → List ℕ
@@ -41,11 +39,7 @@ pub record FrameRoom (rate : ℕ) (soft : List ℤ) (words bits frame : List ℕ
   pub bits-long : stepsOf rate ≤ length bits
   pub frame-long : 3 * rate ≤ length frame
 
--- the metric of a decoding, and the percentage of a quality, where there is one
-abbrev pub metricOf : Decoding → ℤ
-metricOf (Done s) = s .metric
-metricOf (not-decoded r) = pos 0
-
+-- the percentage of a quality, where there is one
 abbrev pub percentIn : Measured → Float
 percentIn (Is q) = q .percent
 percentIn (not-measured r) = fin false 0 (pos 0)

@@ -15,10 +15,10 @@ use Rattle.en300401.specs.Trellis.{zeroEnd}
 use Rattle.quality.specs.declared.Quality.{Quality}
 use Rattle.quality.specs.Figures.{qualityOf}
 use Rattle.viterbi.specs.declared.Decoding.{Decoding}
-use Rattle.viterbi.specs.Decoders.{answerOf, Decoded}
+use Rattle.viterbi.specs.Decoders.{answerOf, Decoded, metricOf}
 use Rattle.viterbi.specs.Result.{Decodes, ChoiceWords}
 use Rattle.viterbi.proofs.Result.{Finished, finished, decoded-length}
-use Rattle.fic_handler.specs.Blocks.{dataBits, metricOf, BlockDecoded}
+use Rattle.fic_handler.specs.Blocks.{dataBits, BlockDecoded}
 use Rattle.fic_handler.proofs.decode_block.Statement.{statement}
 use Rattle.fic_handler.proofs.decode_block.Tie as tie
 
