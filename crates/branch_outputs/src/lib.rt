@@ -1,6 +1,5 @@
 // The outputs of the mother code's trellis: from each state, at each input, four bits.
 ghost use mathlib.Core.Path.{_≡_};
-ghost use Rattle.en300401.specs.Trellis.{parity};
 ghost use Rattle.branch_outputs.specs.Outputs.{branchOutputs};
 
 // By state, input and output number.
@@ -76,11 +75,4 @@ pub fn branch_outputs() -> [[[u8; 4]; 2]; 64]
     ensures { λ r. ⌜ r ≡ branchOutputs ⌝ }
 {
     BRANCH_OUTPUTS
-}
-
-// One output: the number of ones of register and mask, modulo two.
-pub fn output(register: u32, mask: u32) -> u32
-    ensures { λ r. ⌜ r ≡ parity register mask ⌝ }
-{
-    u32::count_ones(register & mask) % 2
 }

@@ -1,7 +1,7 @@
 // The CRC of a FIB: the byte test (constants.rs) and the bit test (fic/handler.rs).
 ghost use mathlib.Core.Path.{_≡_};
-ghost use Prim.Native.Nat.{_+_, _*_, _/_, _%_, _^_, _<_, _≤_};
-ghost use lib.ListN.{length, take};
+ghost use Prim.Native.Nat.{_+_, _*_, _/_, _%_, _^_, _<_};
+ghost use lib.ListN.{length};
 ghost use Rattle.laws.specs.Bits.{numOf, bitsOf, AreBits};
 ghost use Rattle.en300401.specs.Bytes.{bitsOfBytes};
 ghost use Rattle.en300401.specs.Crc.{crcStep, crcFrom};

@@ -1,13 +1,13 @@
 // FIC handling (fic/handler.rs): three symbols to checked FIBs, with the quality of each block.
 ghost use mathlib.Core.Path.{_≡_};
 ghost use mathlib.Core.List.{_++_};
-ghost use Prim.Native.Nat.{ℕ, _+_, _*_, _/_, _<_, _≤_};
-ghost use lib.ListN.{length, getD, take, drop};
+ghost use Prim.Native.Nat.{_+_, _*_, _/_, _<_, _≤_};
+ghost use lib.ListN.{length, take, drop};
 ghost use Rattle.laws.specs.Bits.{AreBits};
 ghost use Rattle.laws.specs.Integers.{at};
 ghost use Rattle.en300401.specs.Bytes.{bytesOfBits};
 ghost use Rattle.viterbi.specs.Decoders.{metricOf};
-ghost use Rattle.fic_handler.specs.Blocks.{joined, blockOf, KeptFib, KeptFibs, BlockDecoded, BlockRoom, BlockProcessed, lent};
+ghost use Rattle.fic_handler.specs.Blocks.{joined, KeptFib, KeptFibs, BlockDecoded, BlockRoom, BlockProcessed, lent};
 ghost use Rattle.fic_handler.specs.Promise.{Room, Processed, Away, FicPromise};
 ghost use Rattle.quality.specs.Figures.{qualityOf};
 use quality::Measured;

@@ -1,4 +1,5 @@
 // MSC: set-up and reset of a sub-channel's state and ring (msc/mod.rs).
+use msc_state::Channel;
 use msc_state::State;
 use protection::Description;
 use protection::Judged;
@@ -7,7 +8,7 @@ ghost use mathlib.Core.Path.{_≡_};
 ghost use Prim.Native.Nat.{_≤_};
 ghost use lib.ListN.{length, replicate};
 ghost use lib.IntN.{pos};
-ghost use Rattle.msc_state.specs.States.{ringRoom};
+ghost use Rattle.msc_state.specs.States.{ringRoom, startedAt, noDescription};
 ghost use Rattle.msc_set_up.specs.Promises.{cleared, SetUpPromise, ResetPromise};
 
 pub struct SetUp {
@@ -34,6 +35,36 @@ fn clear_ring(d: Description, ring: &mut [i8])
     clear(&mut ring[..n]);
 }
 
+// Nothing counted yet.
+fn started(d: Description, ring_index: u8, cif_in_frame: u8) -> State
+    ensures { λ r. ⌜ r ≡ startedAt d «ring_index» «cif_in_frame» ⌝ }
+{
+    State {
+        symbols: 0,
+        cif_in_frame,
+        channel: Channel {
+            description: d,
+            ring_index,
+            cif_count: 0,
+            frames_decoded: 0,
+        },
+    }
+}
+
+// What a refused set-up has.
+fn no_description() -> Description
+    ensures { λ r. ⌜ r ≡ noDescription ⌝ }
+{
+    Description {
+        start_addr: 0,
+        sub_size: 0,
+        bitrate: 0,
+        protection_level: 0,
+        eep_option: 0,
+        is_eep: false,
+    }
+}
+
 // A state for a description, and its ring's need filled with zeros: refusals 1 to 7, then 8.
 pub fn set_up(d: Description, ring: &mut [i8]) -> SetUp
     ensures { λ r. ⌜ SetUpPromise d (now (ring .entry)) r (now (ring .exit)) ⌝ }
@@ -41,13 +72,13 @@ pub fn set_up(d: Description, ring: &mut [i8]) -> SetUp
     let number = msc_state::set_up_refusal(d, ring.len());
     if number != 0 {
         return SetUp {
-            state: msc_state::started(msc_state::no_description(), 0, 0),
+            state: started(no_description(), 0, 0),
             answer: Judged::Refused(Refusal { number }),
         };
     }
     clear_ring(d, &mut *ring);
     SetUp {
-        state: msc_state::started(d, 0, 0),
+        state: started(d, 0, 0),
         answer: Judged::Accepted,
     }
 }
@@ -67,7 +98,7 @@ pub fn reset(state: State, ring: &mut [i8]) -> SetUp
     }
     clear_ring(description, &mut *ring);
     SetUp {
-        state: msc_state::started(description, 0, 0),
+        state: started(description, 0, 0),
         answer: Judged::Accepted,
     }
 }

@@ -3,10 +3,10 @@ use protection::Description;
 use protection::Judged;
 ghost use mathlib.Core.Path.{_≡_};
 ghost use mathlib.Core.Bool.{cond};
-ghost use Prim.Native.Nat.{ℕ, _+_, _%_, _<_, min};
+ghost use Prim.Native.Nat.{_+_, _%_, _<_, min};
 ghost use lib.Dec.{ltb};
 ghost use Rattle.protection.specs.Refusals.{refusalOf};
-ghost use Rattle.msc_state.specs.States.{badState, lacksRoom, setUpRefusal, resetRefusal, feedRefusal, startedAt, noDescription, mostFrames, nextChannel, nextState};
+ghost use Rattle.msc_state.specs.States.{badState, lacksRoom, setUpRefusal, resetRefusal, feedRefusal, mostFrames, nextChannel, nextState};
 
 // What belongs to the sub-channel.
 pub struct Channel {
@@ -166,36 +166,6 @@ pub fn feed_refusal(
     let bad = is_bad(state);
     let lacks = lacks_room(d, cif, ring, deinterleaved, depunctured, words, bits, frame);
     first(bad, 10, first(lacks, 8, first(soft < 3072, 9, 0)))
-}
-
-// Nothing counted yet.
-pub fn started(d: Description, ring_index: u8, cif_in_frame: u8) -> State
-    ensures { λ r. ⌜ r ≡ startedAt d «ring_index» «cif_in_frame» ⌝ }
-{
-    State {
-        symbols: 0,
-        cif_in_frame,
-        channel: Channel {
-            description: d,
-            ring_index,
-            cif_count: 0,
-            frames_decoded: 0,
-        },
-    }
-}
-
-// What a refused set-up has.
-pub fn no_description() -> Description
-    ensures { λ r. ⌜ r ≡ noDescription ⌝ }
-{
-    Description {
-        start_addr: 0,
-        sub_size: 0,
-        bitrate: 0,
-        protection_level: 0,
-        eep_option: 0,
-        is_eep: false,
-    }
 }
 
 // One frame more where the count, which has been moved on, is above 16.

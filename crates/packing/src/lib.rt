@@ -1,8 +1,8 @@
 // Decoded bits to bytes, the high bit first (fic/handler.rs and msc/mod.rs, each in its own loop there).
 ghost use mathlib.Core.Path.{_≡_};
-ghost use mathlib.Core.List.{map, _++_};
-ghost use Prim.Native.Nat.{_+_, _*_, _/_, _<_, _≤_};
-ghost use lib.ListN.{length, drop};
+ghost use mathlib.Core.List.{map};
+ghost use Prim.Native.Nat.{_+_, _*_, _/_, _<_};
+ghost use lib.ListN.{length};
 ghost use Rattle.laws.specs.Bits.{numOf};
 ghost use Rattle.packing.specs.Bytes.{asBit, bytesOf, packing as Bytes·packing, packed};
 use refusal::Refusal;

@@ -1,6 +1,6 @@
 // The quality of a decoding: what the Rust works out for its log lines, as one record.
 ghost use mathlib.Core.Path.{_≡_};
-ghost use Prim.Native.Nat.{ℕ, _+_, _*_, _^_, _<_, _≤_};
+ghost use Prim.Native.Nat.{_+_, _*_, _^_, _<_, _≤_};
 ghost use lib.IntN.{pos, natAbs, _+ℤ_};
 ghost use lib.ListN.{length};
 ghost use Rattle.quality.specs.Figures.{sumAbs, percentOf, measured, nothing};

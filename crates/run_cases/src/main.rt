@@ -1,7 +1,6 @@
 // Document 01's cases, and those that it says are run and compared: each on the real functions, one line each with what came out.
 ghost use mathlib.Core.Path.{_≡_};
 ghost use Prim.Native.Nat.{_+_, _≤_, _<_};
-ghost use lib.ListN.{length};
 use libc::STDOUT_FILENO;
 use protection::Description;
 use protection::Judged;
@@ -211,7 +210,7 @@ fn as_output(entry: u8) -> u32 {
 fn is_output(outputs: &[[[u8; 4]; 2]; 64], s: usize, b: usize, g: usize) -> bool
     requires { ⌜ (s < 64) × (b < 2) × (g < 4) ⌝ }
 {
-    as_output(outputs[s][b][g]) == branch_outputs::output((2 * s + b) as u32, mask(g))
+    as_output(outputs[s][b][g]) == parity::parity_of((2 * s + b) as u32, mask(g))
 }
 
 fn held(outputs: &[[[u8; 4]; 2]; 64]) -> u64 {

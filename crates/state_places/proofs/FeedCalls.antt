@@ -10,7 +10,7 @@ use lib.Dec.{ltb}
 use lib.ListN.{length, set, drop}
 use lib.IntN.{ℤ}
 use lib.Ieee.{Float}
-use Rattle.refusal.specs.Outcome.{check, firstOf}
+use Rattle.refusal.specs.Outcome.{Outcome, outcome, check, firstOf}
 use Rattle.refusal.proofs.Laws.{orElse-zero}
 use Rattle.msc_state.specs.declared.Channel.{Channel}
 use Rattle.msc_state.specs.declared.State.{State}
@@ -22,9 +22,10 @@ use Rattle.msc_handler.specs.declared.Fed.{Fed}
 use Rattle.msc_handler.specs.Promises.{Said, waiting, framed, refused, saidOf, Buffers, refusalIn, turnAt, turnOf, gathered, Completed, Feeds, FeedPromise}
 use Rattle.places.specs.Places.{short}
 use Rattle.places.proofs.Places.{first-set}
-use Rattle.state_places.specs.Code.{stateRefusal, placesRefusal, EnoughPlaces, FedTold}
-use Rattle.state_places.specs.Msc.{stateIn, outOfRange, statePut, feedNumber, FedPlaces, fedPlaces, bytesIn, percentPut, FeedCall}
-use Rattle.state_places.proofs.MscCalls.{among, past}
+use Rattle.state_numbers.specs.Numbers.{stateIn, outOfRange, statePut, stateRefusal}
+use Rattle.state_places.specs.Code.{placesRefusal, EnoughPlaces, FedTold}
+use Rattle.state_places.specs.Msc.{feedNumber, FedPlaces, fedPlaces, bytesIn, percentPut, FeedCall}
+use Rattle.state_places.proofs.MscCalls.{among, past, Written}
 
 -- the tests of the places, in the code's order
 eight-second : (b : Bool) (ns : List ℕ) → 8 ≡ firstOf (check 8 b ∷ 8 ∷ ns)
@@ -50,6 +51,10 @@ by-state state lengths percents h k = rw (le-ltb _ _ h, le-ltb _ _ k) (go (ltb (
     go : (b : Bool) (n : ℕ) → firstOf (check 8 b ∷ n ∷ []) ≡ firstOf (check 8 b ∷ 0 ∷ 0 ∷ n ∷ [])
     go true n = refl
     go false n = refl
+
+-- refused by 8 beside the state, or as the state has it
+pub beside : (n m : ℕ) (s : State) (o : Outcome State) → n ≡ m → o ≡ outcome n s → o ≡ outcome m s
+beside n m s o e p = p ∙ ap (λ (k : ℕ). outcome k s) e
 
 -- the tests before the room's
 module _ (soft : List ℤ) (b : Buffers) (f : FedPlaces) where
@@ -83,23 +88,19 @@ enough f e =
       percents-long = ltb-false (length (f .percents)) 1 (held-not 7 (ltb (length (f .percents)) 1) (zeroed (later n1)));
     }
 
--- past them the state has no refusal of its own
-pub state-sound : (f : FedPlaces) → EnoughPlaces f → placesRefusal (f .state) (length (f .lengths)) (length (f .percents)) ≡ 0 → stateRefusal (f .state) ≡ 0
-state-sound f h e = by-state (f .state) (length (f .lengths)) (length (f .percents)) (h .lengths-long) (h .percents-long) ∙ e
-
 -- an answer, as it is written
 module _ (a : Answer) (s : State) (f : FedPlaces) where
   pub told-refused : (n : ℕ) → a ≡ Refused n → FedTold a s f f n
   unfolding FedTold
   told-refused n q = rw q (refl, refl)
 
-  pub told-waiting : EnoughPlaces f → a ≡ Waiting → {state' : List ℕ} → state' ≡ statePut s (f .state) → FedTold a s f (fedPlaces state' (set (f .lengths) 0 0) (f .percents)) 0
+  pub told-waiting : EnoughPlaces f → a ≡ Waiting → {k : ℕ} {state' : List ℕ} → Written s (f .state) k state' → FedTold a s f (fedPlaces state' (set (f .lengths) 0 0) (f .percents)) k
   unfolding FedTold
-  told-waiting h q e = rw q (refl, λ i. fedPlaces (e i) (first-set 0 (f .lengths) (h .lengths-long) i) (f .percents))
+  told-waiting h q w = rw q (w .number-is, λ i. fedPlaces (w .state-is i) (first-set 0 (f .lengths) (h .lengths-long) i) (f .percents))
 
-  pub told-frame : EnoughPlaces f → (n : ℕ) (p : Float) → a ≡ Frame n p → {state' : List ℕ} → state' ≡ statePut s (f .state) → FedTold a s f (fedPlaces state' (set (f .lengths) 0 n) (set (f .percents) 0 p)) 0
+  pub told-frame : EnoughPlaces f → (n : ℕ) (p : Float) → a ≡ Frame n p → {k : ℕ} {state' : List ℕ} → Written s (f .state) k state' → FedTold a s f (fedPlaces state' (set (f .lengths) 0 n) (set (f .percents) 0 p)) k
   unfolding FedTold
-  told-frame h n p q e = rw q (refl, λ i. fedPlaces (e i) (first-set n (f .lengths) (h .lengths-long) i) (first-set p (f .percents) (h .percents-long) i))
+  told-frame h n p q w = rw q (w .number-is, λ i. fedPlaces (w .state-is i) (first-set n (f .lengths) (h .lengths-long) i) (first-set p (f .percents) (h .percents-long) i))
 
 -- what is said tells whether it was refused, and by what
 abbrev numberSaid : Said → ℕ

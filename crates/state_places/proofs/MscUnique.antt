@@ -10,7 +10,8 @@ use Rattle.protection.specs.declared.Description.{Description}
 use Rattle.msc_handler.specs.declared.Fed.{Fed}
 use Rattle.msc_handler.specs.Promises.{Buffers}
 use Rattle.msc_handler.proofs.Feeding.{fed-unique}
-use Rattle.state_places.specs.Msc.{statePut, Readied, FedPlaces, fedPlaces, bytesIn, percentPut, FeedWritten, FeedCall}
+use Rattle.state_numbers.specs.Numbers.{statePut}
+use Rattle.state_places.specs.Msc.{Readied, FedPlaces, fedPlaces, bytesIn, percentPut, FeedWritten, FeedCall}
 
 -- set-up and reset
 pub record SameReady (k : ℕ) (ring : List ℤ) (state : List ℕ) (k' : ℕ) (ring' : List ℤ) (state' : List ℕ) : Type 0 where

@@ -2,7 +2,7 @@
 use mathlib.Core.Path.{_≡_}
 use mathlib.Core.List.{List, [], _∷_}
 use Prim.Native.Nat.{ℕ, _≤_}
-use lib.ListN.{length, getD, drop}
+use lib.ListN.{length, drop}
 use Rattle.refusal.specs.Outcome.{check, orElse, firstOf}
 use Rattle.protection.specs.declared.Description.{Description}
 use Rattle.protection.specs.declared.Judged.{Judged}
@@ -12,24 +12,10 @@ use Rattle.msc_handler.specs.declared.Answer.{Answer}
 use Rattle.msc_handler.specs.declared.Answer.the-variants.{Waiting, Frame, Refused}
 use Rattle.msc_state.specs.declared.State.{State}
 use Rattle.places.specs.Places.{short}
-use Rattle.state_places.specs.Msc.{outOfRange, statePut, FedPlaces, fedPlaces}
+use Rattle.state_numbers.specs.Numbers.{outOfRange, statePut}
+use Rattle.state_places.specs.Msc.{FedPlaces, fedPlaces}
 
--- each number fits its field
-pub record InRange (xs : List ℕ) : Type 0 where
-  pub symbols : getD xs 0 0 ≤ 255
-  pub in-frame : getD xs 1 0 ≤ 255
-  pub index : getD xs 2 0 ≤ 255
-  pub count : getD xs 3 0 ≤ 255
-  pub start : getD xs 5 0 ≤ 65535
-  pub size : getD xs 6 0 ≤ 65535
-  pub rate : getD xs 7 0 ≤ 65535
-  pub level : getD xs 8 0 ≤ 255
-  pub option : getD xs 9 0 ≤ 255
-
--- the tests before the room's: of the state, and of all places of a symbol's answer
-unfoldable pub stateRefusal : List ℕ → ℕ
-stateRefusal state = firstOf (short 11 (length state) ∷ check 10 (outOfRange state) ∷ [])
-
+-- the tests before the room's, of the state and of all places of a symbol's answer
 unfoldable pub placesRefusal : List ℕ → ℕ → ℕ → ℕ
 placesRefusal state lengths percents = firstOf (short 11 (length state) ∷ short 1 lengths ∷ short 1 percents ∷ check 10 (outOfRange state) ∷ [])
 

@@ -1,10 +1,8 @@
--- Document 01, "msc/mod.rs", "Room" and its refusals: a state as eleven numbers, and what set-up, reset and feeding return and write.
+-- Document 01, "msc/mod.rs", "Room" and its refusals: what set-up, reset and feeding return and write, the state as eleven numbers.
 use mathlib.Core.Path.{_≡_}
-use mathlib.Core.Bool.{Bool, cond}
-use mathlib.Core.List.{List, [], _∷_, _++_}
+use mathlib.Core.List.{List, [], _∷_}
 use Prim.Native.Nat.{ℕ, _<_}
-use lib.Dec.{ltb}
-use lib.ListN.{length, getD, drop}
+use lib.ListN.{length, drop}
 use lib.IntN.{ℤ}
 use lib.Ieee.{Float}
 use Rattle.refusal.specs.Outcome.{check, orElse, firstOf, unlessRefused}
@@ -12,47 +10,11 @@ use Rattle.protection.specs.declared.Description.{Description}
 use Rattle.msc_handler.specs.declared.Answer.{Answer}
 use Rattle.msc_handler.specs.declared.Answer.the-variants.{Waiting, Frame, Refused}
 use Rattle.msc_handler.specs.declared.Fed.{Fed}
-use Rattle.msc_state.specs.declared.State.{State}
 use Rattle.msc_handler.specs.Promises.{Buffers, refusalIn, FeedPromise}
 use Rattle.msc_set_up.specs.Promises.{cleared}
-use Rattle.msc_state.specs.States.{anyOf, freshState, setUpRefusal, resetRefusal}
-use Rattle.places.specs.Places.{describes, short}
-
-abbrev pub flagOf : Bool → ℕ
-flagOf eep = cond eep 1 0
-
--- symbols, CIF in frame, ring index, CIF count, frames decoded, and the description's six
-unfoldable pub numbersOf : State → List ℕ
-numbersOf s =
-    s .symbols ∷ s .«cif_in_frame» ∷ s .channel .«ring_index» ∷ s .channel .«cif_count» ∷ s .channel .«frames_decoded» ∷ s .channel .description .«start_addr» ∷ s .channel .description .«sub_size»
-    ∷ s .channel .description .bitrate ∷ s .channel .description .«protection_level» ∷ s .channel .description .«eep_option» ∷ flagOf (s .channel .description .«is_eep») ∷ []
-
--- and back
-unfoldable pub stateIn : List ℕ → State
-stateIn xs =
-    record {
-      symbols = getD xs 0 0;
-      «cif_in_frame» = getD xs 1 0;
-      channel = record {
-        description = describes (getD xs 5 0) (getD xs 6 0) (getD xs 7 0) (getD xs 8 0) (getD xs 9 0) (getD xs 10 0);
-        «ring_index» = getD xs 2 0;
-        «cif_count» = getD xs 3 0;
-        «frames_decoded» = getD xs 4 0;
-      };
-    }
-
--- a number that its field does not hold: above 255, or 65,535 for start, size and bit rate
-abbrev pub overs : List ℕ → List Bool
-overs xs =
-    ltb 255 (getD xs 0 0) ∷ ltb 255 (getD xs 1 0) ∷ ltb 255 (getD xs 2 0) ∷ ltb 255 (getD xs 3 0) ∷ ltb 65535 (getD xs 5 0) ∷ ltb 65535 (getD xs 6 0) ∷ ltb 65535 (getD xs 7 0) ∷ ltb 255 (getD xs 8 0)
-    ∷ ltb 255 (getD xs 9 0) ∷ []
-
-unfoldable pub outOfRange : List ℕ → Bool
-outOfRange xs = anyOf (overs xs)
-
--- a state's numbers before the rest as it was
-abbrev pub statePut : State → List ℕ → List ℕ
-statePut s xs = numbersOf s ++ drop 11 xs
+use Rattle.msc_state.specs.States.{freshState, setUpRefusal, resetRefusal}
+use Rattle.places.specs.Places.{short}
+use Rattle.state_numbers.specs.Numbers.{stateIn, outOfRange, statePut}
 
 -- refused by n with all as it was, or done: the ring's need filled with zeros, and a fresh state
 pub record Readied (n : ℕ) (d : Description) (ring : List ℤ) (state : List ℕ) (number : ℕ) (ring' : List ℤ) (state' : List ℕ) : Type 0 where

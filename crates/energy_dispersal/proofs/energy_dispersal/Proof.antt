@@ -13,8 +13,6 @@ use Rattle.en300401.specs.Dispersal.{prbs, disperse}
 use Rattle.en300401.proofs.Dispersal.{registerAt, register-start, register-lt, register-bit, register-next, disperse-length, disperse-at}
 use Rattle.energy_dispersal.proofs.energy_dispersal.Statement.{statement}
 use Rattle.energy_dispersal.proofs.energy_dispersal.Tie as tie
-use Rattle.energy_dispersal.proofs.energy_dispersal.Reads as reads
-use Rattle.energy_dispersal.proofs.energy_dispersal.Lts as lts
 
 xored : ℕ → ℕ → ℕ
 xored n x = bitXor x (prbs n)

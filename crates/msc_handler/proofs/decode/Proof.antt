@@ -6,10 +6,6 @@ use Rattle.viterbi.specs.Decoders.{endsOf, answerOf, Decoded}
 use borrow.Author.Needs.{needs}
 use Rattle.msc_handler.proofs.decode.Statement.{statement}
 use Rattle.msc_handler.proofs.decode.Tie as tie
-use Rattle.msc_handler.proofs.decode.Reads as reads
-use Rattle.msc_handler.proofs.decode.Lts as lts
-use Rattle.viterbi.proofs.viterbi_decode_state0.Reads as viterbi-decode-state0-reads
-use Rattle.viterbi.proofs.viterbi_decode_with_metric.Reads as viterbi-decode-with-metric-reads
 
 -- src/lib.rt:106:9
 viterbi-decode-with-metric-requires : tie.Need-viterbi-decode-with-metric-requires

@@ -20,9 +20,6 @@ use Rattle.msc_handler.proofs.Ring.{slot-end, apart}
 use Rattle.msc_handler.proofs.deinterleave.Statement.{statement}
 use Rattle.msc_handler.proofs.deinterleave.Tie as tie
 use Rattle.msc_handler.proofs.deinterleave.Reads as reads
-use Rattle.msc_handler.proofs.deinterleave.Lts as lts
-use Rattle.msc_handler.proofs.exchange.Reads as exchange-reads
-use Rattle.msc_handler.proofs.slot_of.Reads as slot-of-reads
 
 -- the slices fit each other
 record Fit (own ring : List ℤ) (x n : ℕ) : Type 0 where

@@ -13,14 +13,6 @@ use Rattle.msc_handler.proofs.Frames.{framed-by}
 use borrow.Author.Needs.{needs}
 use Rattle.msc_handler.proofs.frame_of.Statement.{statement}
 use Rattle.msc_handler.proofs.frame_of.Tie as tie
-use Rattle.msc_handler.proofs.frame_of.Reads as reads
-use Rattle.msc_handler.proofs.frame_of.Lts as lts
-use Rattle.energy_dispersal.proofs.energy_dispersal.Reads as energy-dispersal-reads
-use Rattle.msc_handler.proofs.decode.Reads as decode-reads
-use Rattle.msc_handler.proofs.metric_of.Reads as metric-of-reads
-use Rattle.msc_handler.proofs.percent_in.Reads as percent-in-reads
-use Rattle.packing.proofs.pack.Reads as pack-reads
-use Rattle.quality.proofs.measure.Reads as measure-reads
 
 -- src/lib.rt:134:9
 decode-requires : tie.Need-decode-requires

@@ -6,8 +6,6 @@ use Rattle.viterbi.specs.Decoders.{metricOf}
 use borrow.Author.Needs.{needs}
 use Rattle.msc_handler.proofs.metric_of.Statement.{statement}
 use Rattle.msc_handler.proofs.metric_of.Tie as tie
-use Rattle.msc_handler.proofs.metric_of.Reads as reads
-use Rattle.msc_handler.proofs.metric_of.Lts as lts
 
 -- src/lib.rt:115:24
 enum-known-decoding : tie.Need-enum-known-decoding

@@ -6,8 +6,6 @@ use Rattle.msc_handler.specs.Frames.{percentIn}
 use borrow.Author.Needs.{needs}
 use Rattle.msc_handler.proofs.percent_in.Statement.{statement}
 use Rattle.msc_handler.proofs.percent_in.Tie as tie
-use Rattle.msc_handler.proofs.percent_in.Reads as reads
-use Rattle.msc_handler.proofs.percent_in.Lts as lts
 
 -- src/lib.rt:124:22
 enum-known-measured : tie.Need-enum-known-measured

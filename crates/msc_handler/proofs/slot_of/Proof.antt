@@ -9,8 +9,6 @@ use Rattle.en300401.proofs.Interleaving.{delay-lt}
 use borrow.Author.Needs.{needs}
 use Rattle.msc_handler.proofs.slot_of.Statement.{statement}
 use Rattle.msc_handler.proofs.slot_of.Tie as tie
-use Rattle.msc_handler.proofs.slot_of.Reads as reads
-use Rattle.msc_handler.proofs.slot_of.Lts as lts
 
 -- src/lib.rt:57:10
 mul-result : tie.Need-mul-result

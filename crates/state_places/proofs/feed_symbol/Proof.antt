@@ -1,24 +1,23 @@
--- `state_places::feed_symbol` meets its contract: the tests of the places, then the room's answer told.
+-- `state_places::feed_symbol` meets its contract: the refusal of the places, or the room's answer told.
 -- Assumes nothing.
-use mathlib.Core.Path.{_≡_, refl, sym, _∙_}
+use mathlib.Core.Path.{refl}
 use lib.ListN.{length}
+use Rattle.state_numbers.specs.Numbers.{stateIn}
 use Rattle.state_places.specs.Code.{placesRefusal}
 use Rattle.state_places.specs.Msc.{FedPlaces, fedPlaces}
-use Rattle.state_places.proofs.FeedCalls.{turned-away, enough, state-sound, fed-told}
-use Rattle.state_places.proofs.MscCalls.{readable}
+use Rattle.state_places.proofs.FeedCalls.{turned-away, enough, fed-told}
+use Rattle.state_places.proofs.MscCalls.{away, Held, held}
+use borrow.Author.Needs.{needs}
 use Rattle.state_places.proofs.feed_symbol.Statement.{statement}
 use Rattle.state_places.proofs.feed_symbol.Tie as tie
 
 -- the places that are lent
-abbrev given : tie.Start → FedPlaces
-given s = fedPlaces (s .args .state .now) (s .args .length .now) (s .args .percent .now)
+abbrev given : tie.After-read-beside → FedPlaces
+given r = let s = r .before .before .before .before .before .before .before .before in fedPlaces (s .args .state .now) (s .args .length .now) (s .args .percent .now)
 
-abbrev start : tie.Else1 → tie.Start
-start c = c .before .before .before .before .before .before .before .before .before
-
--- past the first test none of them is short
-none : (c : tie.Else1) → placesRefusal (start c .args .state .now) (length (start c .args .length .now)) (length (start c .args .percent .now)) ≡ 0
-none c = sym (c .before .places-refusal .ensures) ∙ c .if1 .left
+-- past the first test none of them is short, and the state is read
+found : (c : tie.After-reading2) → let f = given (c .before .before) in Held (placesRefusal (f .state) (length (f .lengths)) (length (f .percents))) (stateIn (f .state)) (c .reading2 .given .0 .0)
+found c = held _ _ _ (c .before .before .read-beside .ensures) _ (c .reading2 .given .1)
 
 -- the calls, from the end
 abbrev put : tie.After-slice-known12 → tie.After-put-fed
@@ -27,26 +26,31 @@ put c = c .before .before .before .before .before .before
 abbrev fed : tie.After-slice-known12 → tie.After-feed-symbol
 fed c = put c .before .before .before .before .before .before .before .before .before .before .before .before .before .before
 
-places-refusal-requires : tie.Need-places-refusal-requires
-places-refusal-requires c κs = tt
+read-beside-requires : tie.Need-read-beside-requires
+read-beside-requires c κs = tt
 
-same-length : tie.Need-same-length
-same-length c = refl
+enum-known-reading : tie.Need-enum-known-reading
+enum-known-reading c = search needs
 
-returns : tie.Need-returns
-returns c = turned-away _ _ (given (c .before .before .before .before .before .before .before .before .before)) _ (c .before .places-refusal .ensures) (c .if1 .taken)
-
-read-state-requires : tie.Need-read-state-requires
-read-state-requires c κs =
-    let f = given (start (c .before)) in
-    let r = readable (f .state) (state-sound f (enough f (none (c .before))) (none (c .before))) in
-    (r .long, r .ranged)
+enum-known-reading-2 : tie.Need-enum-known-reading-2
+enum-known-reading-2 c = search needs
 
 feed-symbol-requires : tie.Need-feed-symbol-requires
 feed-symbol-requires c κs = tt
 
 put-fed-requires : tie.Need-put-fed-requires
-put-fed-requires c κs = enough _ (none (c .before .before .before .before .before .before .before .before .before .before .before .before .before .before .before .before .before .before .before .before .before .before .before))
+put-fed-requires c κs =
+    let e = c .before .before .before .before .before .before .before .before .before .before .before .before .before .before .before .before .before .before .before .before .before .before in
+    enough (given (e .before .before)) (found e .none)
+
+same-length : tie.Need-same-length
+same-length c = refl
+
+returns : tie.Need-returns
+returns c =
+    let r = c .before .before .before in
+    let a = away _ _ _ (r .read-beside .ensures) _ (c .before .reading .given .1) in
+    turned-away _ _ (given r) _ (a .number-is) (a .is-one)
 
 same-length-2 : tie.Need-same-length-2
 same-length-2 c = put c .put-fed .kept .1 .0
@@ -80,21 +84,21 @@ same-length-11 c = put c .put-fed .kept .1 .1 .1 .0
 
 returns-2 : tie.Need-returns-2
 returns-2 c =
-    let p = put c in
     let w = fed c in
-    let e = w .before .before .before .before .before .before .before .before .before .before in
-    fed-told (given (start e)) (none e) (w .before .before .before .before .before .before .before .before .read-state .ensures) (w .feed-symbol .result) (w .feed-symbol .ensures) _ _ (p .put-fed .ensures)
+    let e = w .before .before .before .before .before .before .before .before .before in
+    fed-told (given (e .before .before)) (found e .none) (found e .state-is) (w .feed-symbol .result) (w .feed-symbol .ensures) _ _ (put c .put-fed .ensures)
 
 pub feed-symbol-spec : {M : Type 1} → statement M
 feed-symbol-spec =
     tie.close
     (tie.spec
-    places-refusal-requires
-    same-length
-    returns
-    read-state-requires
+    read-beside-requires
+    enum-known-reading
+    enum-known-reading-2
     feed-symbol-requires
     put-fed-requires
+    same-length
+    returns
     same-length-2
     same-length-3
     same-length-4

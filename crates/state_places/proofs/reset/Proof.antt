@@ -1,40 +1,45 @@
--- `state_places::reset` meets its contract: the tests of the state, then the room's answer.
+-- `state_places::reset` meets its contract: the state's refusal, or the room's answer.
 -- Assumes nothing.
-use mathlib.Core.Path.{_≡_, sym, _∙_}
 use mathlib.Core.List.{List}
 use Prim.Native.Nat.{ℕ}
-use Rattle.state_places.specs.Code.{stateRefusal}
-use Rattle.state_places.proofs.MscCalls.{readable, reset-away, reset-made}
+use Rattle.state_numbers.specs.Numbers.{stateIn, stateRefusal}
+use Rattle.state_numbers.proofs.Numbers.{readable}
+use Rattle.state_places.proofs.MscCalls.{away, Held, held, reset-away, reset-made}
 use borrow.Author.Needs.{needs}
 use Rattle.state_places.proofs.reset.Statement.{statement}
 use Rattle.state_places.proofs.reset.Tie as tie
 
+-- the numbers that are lent
+abbrev given : tie.After-read → List ℕ
+given r = r .before .before .before .args .state .now
+
 -- past the tests there is no refusal of the state
-abbrev given : tie.Else1 → List ℕ
-given c = c .before .before .before .before .args .state .now
+found : (c : tie.After-reading2) → Held (stateRefusal (given (c .before .before))) (stateIn (given (c .before .before))) (c .reading2 .given .0 .0)
+found c = held _ _ _ (c .before .before .read .ensures) _ (c .reading2 .given .1)
 
-none : (c : tie.Else1) → stateRefusal (given c) ≡ 0
-none c = sym (c .before .state-refusal .ensures) ∙ c .if1 .left
+read-requires : tie.Need-read-requires
+read-requires c κs = search needs
 
-state-refusal-requires : tie.Need-state-refusal-requires
-state-refusal-requires c κs = search needs
+enum-known-reading : tie.Need-enum-known-reading
+enum-known-reading c = search needs
 
-same-length : tie.Need-same-length
-same-length c = search needs
-
-returns : tie.Need-returns
-returns c = reset-away (c .before .before .before .before .args .state .now) _ (c .before .state-refusal .ensures) (c .if1 .taken)
-
-read-state-requires : tie.Need-read-state-requires
-read-state-requires c κs =
-    let r = readable _ (none (c .before)) in
-    (r .long, r .ranged)
+enum-known-reading-2 : tie.Need-enum-known-reading-2
+enum-known-reading-2 c = search needs
 
 reset-requires : tie.Need-reset-requires
 reset-requires c κs = search needs
 
 put-made-requires : tie.Need-put-made-requires
-put-made-requires c κs = readable _ (none (c .before .before .before .before .before .before)) .long
+put-made-requires c κs = readable _ (found (c .before .before .before .before .before) .none) .long
+
+same-length : tie.Need-same-length
+same-length c = search needs
+
+returns : tie.Need-returns
+returns c =
+    let r = c .before .before .before in
+    let a = away _ _ _ (r .read .ensures) _ (c .before .reading .given .1) in
+    reset-away (given r) _ (a .number-is) (a .is-one)
 
 same-length-2 : tie.Need-same-length-2
 same-length-2 c = search needs
@@ -44,19 +49,22 @@ same-length-3 c = search needs
 
 returns-2 : tie.Need-returns-2
 returns-2 c =
-    let e = c .before .before .before .before .before .before .before .before .before in
-    reset-made (given e) (c .before .before .before .before .before .before .before .read-state .ensures) (none e) (c .before .before .before .before .before .reset .ensures) (c .before .before .put-made .ensures)
+    let p = c .before .before in
+    let m = p .before .before .before in
+    let e = m .before .before .before in
+    reset-made (given (e .before .before)) (found e .state-is) (found e .none) (m .reset .ensures) (p .put-made .ensures)
 
 pub reset-spec : {M : Type 1} → statement M
 reset-spec =
     tie.close
     (tie.spec
-    state-refusal-requires
-    same-length
-    returns
-    read-state-requires
+    read-requires
+    enum-known-reading
+    enum-known-reading-2
     reset-requires
     put-made-requires
+    same-length
+    returns
     same-length-2
     same-length-3
     returns-2)

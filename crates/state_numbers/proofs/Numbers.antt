@@ -1,0 +1,116 @@
+-- A state to eleven numbers and back, and the tests of the numbers.
+-- Assumes nothing.
+use mathlib.Core.Path.{_≡_, refl, ap, _∙_}
+use mathlib.Core.Bool.{Bool, true, false, cond}
+use mathlib.Core.List.{List, [], _∷_, _++_}
+use Prim.Native.Nat.{ℕ, zero, suc, _<_, _≤_}
+use native.Mathlib.Omega.{arith}
+use borrow.Author.Tests.{lt-ltb, le-ltb, ltb-false}
+use lib.Dec.{ltb}
+use lib.ListN.{length, getD, set, drop}
+use Rattle.refusal.specs.Outcome.{gives, refuses, outcome, check, unlessRefused}
+use Rattle.msc_state.specs.declared.State.{State}
+use Rattle.msc_state.specs.States.{anyOf}
+use Rattle.msc_state.proofs.Refusals.{none-of, off-at, last-flag, clean, zeroed, later, held-not}
+use Rattle.places.specs.Places.{short}
+use Rattle.state_numbers.specs.Code.{InRange}
+use Rattle.state_numbers.specs.Numbers.{flagOf, numbersOf, overs, outOfRange, statePut, stateRefusal}
+
+-- eleven numbers in the first eleven places
+eleven-set : (a b c d e f g h i j k : ℕ) (xs : List ℕ) → 11 ≤ length xs → set (set (set (set (set (set (set (set (set (set (set xs 0 a) 1 b) 2 c) 3 d) 4 e) 5 f) 6 g) 7 h) 8 i) 9 j) 10 k ≡ (a ∷ b ∷ c ∷ d ∷ e ∷ f ∷ g ∷ h ∷ i ∷ j ∷ k ∷ []) ++ drop 11 xs
+eleven-set a b c d e f g h i j k (x0 ∷ x1 ∷ x2 ∷ x3 ∷ x4 ∷ x5 ∷ x6 ∷ x7 ∷ x8 ∷ x9 ∷ x10 ∷ xs) l = refl
+eleven-set a b c d e f g h i j k [] l = absurd (omega arith)
+eleven-set a b c d e f g h i j k (x0 ∷ []) l = absurd (omega arith)
+eleven-set a b c d e f g h i j k (x0 ∷ x1 ∷ []) l = absurd (omega arith)
+eleven-set a b c d e f g h i j k (x0 ∷ x1 ∷ x2 ∷ []) l = absurd (omega arith)
+eleven-set a b c d e f g h i j k (x0 ∷ x1 ∷ x2 ∷ x3 ∷ []) l = absurd (omega arith)
+eleven-set a b c d e f g h i j k (x0 ∷ x1 ∷ x2 ∷ x3 ∷ x4 ∷ []) l = absurd (omega arith)
+eleven-set a b c d e f g h i j k (x0 ∷ x1 ∷ x2 ∷ x3 ∷ x4 ∷ x5 ∷ []) l = absurd (omega arith)
+eleven-set a b c d e f g h i j k (x0 ∷ x1 ∷ x2 ∷ x3 ∷ x4 ∷ x5 ∷ x6 ∷ []) l = absurd (omega arith)
+eleven-set a b c d e f g h i j k (x0 ∷ x1 ∷ x2 ∷ x3 ∷ x4 ∷ x5 ∷ x6 ∷ x7 ∷ []) l = absurd (omega arith)
+eleven-set a b c d e f g h i j k (x0 ∷ x1 ∷ x2 ∷ x3 ∷ x4 ∷ x5 ∷ x6 ∷ x7 ∷ x8 ∷ []) l = absurd (omega arith)
+eleven-set a b c d e f g h i j k (x0 ∷ x1 ∷ x2 ∷ x3 ∷ x4 ∷ x5 ∷ x6 ∷ x7 ∷ x8 ∷ x9 ∷ []) l = absurd (omega arith)
+
+pub eleven-put : (s : State) (k : ℕ) → k ≡ flagOf (s .channel .description .«is_eep») → (xs : List ℕ) → 11 ≤ length xs → set (set (set (set (set (set (set (set (set (set (set xs 0 (s .symbols)) 1 (s .«cif_in_frame»)) 2 (s .channel .«ring_index»)) 3 (s .channel .«cif_count»)) 4 (s .channel .«frames_decoded»)) 5 (s .channel .description .«start_addr»)) 6 (s .channel .description .«sub_size»)) 7 (s .channel .description .bitrate)) 8 (s .channel .description .«protection_level»)) 9 (s .channel .description .«eep_option»)) 10 k ≡ statePut s xs
+unfolding numbersOf
+eleven-put s k e xs l = eleven-set (s .symbols) (s .«cif_in_frame») (s .channel .«ring_index») (s .channel .«cif_count») (s .channel .«frames_decoded») (s .channel .description .«start_addr») (s .channel .description .«sub_size») (s .channel .description .bitrate) (s .channel .description .«protection_level») (s .channel .description .«eep_option») k xs l ∙ ap (λ (j : ℕ). (s .symbols ∷ s .«cif_in_frame» ∷ s .channel .«ring_index» ∷ s .channel .«cif_count» ∷ s .channel .«frames_decoded» ∷ s .channel .description .«start_addr» ∷ s .channel .description .«sub_size» ∷ s .channel .description .bitrate ∷ s .channel .description .«protection_level» ∷ s .channel .description .«eep_option» ∷ j ∷ []) ++ drop 11 xs) e
+
+-- the range test: flags tested from the last to the first, and what holds where none does
+flagged : (b : Bool) (bs : List Bool) {r rest : Bool} → r ≡ cond b true rest → rest ≡ anyOf bs → r ≡ anyOf (b ∷ bs)
+flagged b bs e f = e ∙ ap (cond b true) f ∙ go b
+  where
+    go : (c : Bool) → cond c true (anyOf bs) ≡ anyOf (c ∷ bs)
+    go true = refl
+    go false = refl
+
+pub nine-flags :
+    (a b c d f g h i j : Bool) {q r s t u v w x : Bool} → x ≡ cond i true j → w ≡ cond h true x → v ≡ cond g true w → u ≡ cond f true v → t ≡ cond d true u → s ≡ cond c true t → r ≡ cond b true s → q ≡ cond a true r
+    → q ≡ anyOf (a ∷ b ∷ c ∷ d ∷ f ∷ g ∷ h ∷ i ∷ j ∷ [])
+nine-flags a b c d f g h i j e1 e2 e3 e4 e5 e6 e7 e8 =
+    flagged a (b ∷ c ∷ d ∷ f ∷ g ∷ h ∷ i ∷ j ∷ []) e8
+    (flagged b (c ∷ d ∷ f ∷ g ∷ h ∷ i ∷ j ∷ []) e7
+    (flagged c (d ∷ f ∷ g ∷ h ∷ i ∷ j ∷ []) e6
+    (flagged d (f ∷ g ∷ h ∷ i ∷ j ∷ []) e5
+    (flagged f (g ∷ h ∷ i ∷ j ∷ []) e4 (flagged g (h ∷ i ∷ j ∷ []) e3 (flagged h (i ∷ j ∷ []) e2 (flagged i (j ∷ []) e1 (last-flag j))))))))
+
+in-range : (xs : List ℕ) → outOfRange xs ≡ false → InRange xs
+unfolding outOfRange
+in-range xs e =
+    let n = none-of (overs xs) e in
+    record {
+      symbols = ltb-false 255 (getD xs 0 0) (off-at n 0);
+      in-frame = ltb-false 255 (getD xs 1 0) (off-at n 1);
+      index = ltb-false 255 (getD xs 2 0) (off-at n 2);
+      count = ltb-false 255 (getD xs 3 0) (off-at n 3);
+      start = ltb-false 65535 (getD xs 5 0) (off-at n 4);
+      size = ltb-false 65535 (getD xs 6 0) (off-at n 5);
+      rate = ltb-false 65535 (getD xs 7 0) (off-at n 6);
+      level = ltb-false 255 (getD xs 8 0) (off-at n 7);
+      option = ltb-false 255 (getD xs 9 0) (off-at n 8);
+    }
+
+-- the tests of the state
+pub under-eleven : (state : List ℕ) → length state < 11 → 8 ≡ stateRefusal state
+unfolding stateRefusal
+under-eleven state h = rw (lt-ltb _ _ h) refl
+
+pub over-field : (state : List ℕ) → 11 ≤ length state → outOfRange state ≡ true → 10 ≡ stateRefusal state
+unfolding stateRefusal
+over-field state h e = rw (le-ltb _ _ h, e) refl
+
+pub no-fault : (state : List ℕ) → 11 ≤ length state → outOfRange state ≡ false → 0 ≡ stateRefusal state
+unfolding stateRefusal
+no-fault state h e = rw (le-ltb _ _ h, e) refl
+
+-- a state that may be read
+pub record Readable (state : List ℕ) : Type 0 where
+  pub long : 11 ≤ length state
+  pub ranged : InRange state
+
+pub readable : (state : List ℕ) → stateRefusal state ≡ 0 → Readable state
+unfolding stateRefusal
+readable state e =
+    let n = clean (short 11 (length state) ∷ check 10 (outOfRange state) ∷ []) e in
+    record { long = ltb-false (length state) 11 (held-not 7 (ltb (length state) 11) (zeroed n)); ranged = in-range state (held-not 9 (outOfRange state) (zeroed (later n))) }
+
+-- what is written: nothing under eleven places, and all of it from eleven on
+pub no-room : (s : State) (xs : List ℕ) → length xs < 11 → xs ≡ unlessRefused (short 11 (length xs)) (statePut s xs) xs
+no-room s xs h = rw (lt-ltb _ _ h) refl
+
+pub has-room : (s : State) (xs : List ℕ) → 11 ≤ length xs → {ys : List ℕ} → ys ≡ statePut s xs → ys ≡ unlessRefused (short 11 (length xs)) (statePut s xs) xs
+has-room s xs h e = rw (le-ltb _ _ h) e
+
+pub eight : (n : ℕ) → n < 11 → 8 ≡ short 11 n
+eight n h = rw (lt-ltb _ _ h) refl
+
+pub none : (n : ℕ) → 11 ≤ n → 0 ≡ short 11 n
+none n h = rw (le-ltb _ _ h) refl
+
+-- what a reading says
+pub reads-no : (n k : ℕ) (s : State) → k ≡ n → (k ≡ 0 → ⊥) → refuses k ≡ outcome n s
+reads-no zero k s e h = absurd (h e)
+reads-no (suc n) k s e h = ap refuses e
+
+pub reads : (n : ℕ) (s t : State) → n ≡ 0 → t ≡ s → gives t ≡ outcome n s
+reads zero s t z e = ap gives e
+reads (suc n) s t z e = absurd (omega (arith, z))
