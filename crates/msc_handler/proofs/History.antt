@@ -32,7 +32,7 @@ use Rattle.msc_handler.proofs.Feeding.{fed-refuses, fed-gathers, fed-co
 use Rattle.msc_state.proofs.Refusals.{Accepted, accepted, set-up-room, reset-room}
 use Rattle.laws.proofs.Pasted.{pasted-inside, pasted-else}
 use Rattle.msc_handler.proofs.Ring.{slot-end}
-use Rattle.msc_state.proofs.States.{after-middle, after-whole}
+use Rattle.msc_moves.proofs.States.{after-middle, after-whole}
 
 -- one symbol more leaves what was received before it, and is the next to be received
 module _ (h : List (List ℤ)) (x : List ℤ) where

@@ -233,7 +233,7 @@ pub fn feed_symbol(
             answer: Answer::Refused(number),
         };
     }
-    let after = msc_state::after_symbol(state);
+    let after = msc_moves::after_symbol(state);
     let symbols = state.symbols;
     let from = 3072 * (symbols as usize);
     store(soft, &mut *cif, from);

@@ -1,10 +1,10 @@
--- `msc_state::next` meets its contract, for any number.
+-- `msc_moves::next` meets its contract, for any number.
 -- Assumes nothing.
 use native.Mathlib.Nat.{mod-lt, mod-add-mod}
 use native.Mathlib.Omega.{arith}
 use borrow.Author.Needs.{needs}
-use Rattle.msc_state.proofs.next.Statement.{statement}
-use Rattle.msc_state.proofs.next.Tie as tie
+use Rattle.msc_moves.proofs.next.Statement.{statement}
+use Rattle.msc_moves.proofs.next.Tie as tie
 
 rem-result : tie.Need-rem-result
 rem-result c = search needs

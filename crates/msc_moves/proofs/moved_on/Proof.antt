@@ -1,13 +1,13 @@
--- `msc_state::moved_on` meets its contract.
+-- `msc_moves::moved_on` meets its contract.
 -- Assumes nothing.
 use borrow.Author.Needs.{needs}
 use mathlib.Core.Path.{_≡_, ap, _∙_}
 use mathlib.Core.Bool.{Bool, cond}
 use Prim.Native.Nat.{_+_, min}
 use Rattle.msc_state.specs.States.{due, mostFrames, nextChannel}
-use Rattle.msc_state.proofs.States.{due-is}
-use Rattle.msc_state.proofs.moved_on.Statement.{statement}
-use Rattle.msc_state.proofs.moved_on.Tie as tie
+use Rattle.msc_moves.proofs.States.{due-is}
+use Rattle.msc_moves.proofs.moved_on.Statement.{statement}
+use Rattle.msc_moves.proofs.moved_on.Tie as tie
 
 counted-requires : tie.Need-counted-requires
 counted-requires c κs = search needs

@@ -1,10 +1,10 @@
--- `msc_state::after_symbol` meets its contract.
+-- `msc_moves::after_symbol` meets its contract.
 -- Assumes nothing.
 use borrow.Author.Needs.{needs}
 use mathlib.Core.Path.{sym, _∙_}
-use Rattle.msc_state.proofs.States.{after-middle, after-whole}
-use Rattle.msc_state.proofs.after_symbol.Statement.{statement}
-use Rattle.msc_state.proofs.after_symbol.Tie as tie
+use Rattle.msc_moves.proofs.States.{after-middle, after-whole}
+use Rattle.msc_moves.proofs.after_symbol.Statement.{statement}
+use Rattle.msc_moves.proofs.after_symbol.Tie as tie
 
 add-t4 : tie.Need-add-t4
 add-t4 c = search needs

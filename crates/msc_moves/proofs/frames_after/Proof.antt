@@ -1,13 +1,13 @@
--- `msc_state::frames_after` meets its contract.
+-- `msc_moves::frames_after` meets its contract.
 -- Assumes nothing.
 use borrow.Author.Needs.{needs}
 use mathlib.Core.Path.{sym, ap, _∙_}
 use mathlib.Core.Bool.{Bool, cond}
 use Prim.Native.Nat.{_+_, min}
 use borrow.Author.Tests.{lt-ltb, le-ltb}
 use Rattle.msc_state.specs.States.{mostFrames}
-use Rattle.msc_state.proofs.frames_after.Statement.{statement}
-use Rattle.msc_state.proofs.frames_after.Tie as tie
+use Rattle.msc_moves.proofs.frames_after.Statement.{statement}
+use Rattle.msc_moves.proofs.frames_after.Tie as tie
 
 returns : tie.Need-returns
 returns c =
