@@ -37,6 +37,15 @@ module _ {ℓ} {A : Type ℓ} where
   given-value zero a b e = cc
   given-value (suc n) a b e = let z : _≡_ {A = ℕ} 0 1 = cc in absurd (omega arith)
 
+  -- and the outcome of a number that is known
+  pub refused-by : (n : ℕ) (a : A) (k : ℕ) → k ≡ n → (k ≡ 0 → ⊥) → refuses k ≡ outcome n a
+  refused-by zero a k e h = absurd (h e)
+  refused-by (suc n) a k e h = ap refuses e
+
+  pub given-by : (n : ℕ) (a b : A) → n ≡ 0 → b ≡ a → gives b ≡ outcome n a
+  given-by zero a b z e = ap gives e
+  given-by (suc n) a b z e = absurd (omega (arith, z))
+
   -- a refusal of one outcome is a refusal of every outcome with its number
   pub still-refused {κ} : {B : Type κ} (n : ℕ) (a : A) (b : B) (k : ℕ) → refuses k ≡ outcome n a → refuses k ≡ outcome n b
   still-refused n a b k e = still n k e

@@ -3,12 +3,12 @@
 use mathlib.Core.Path.{_≡_, refl, ap, _∙_}
 use mathlib.Core.Bool.{Bool, true, false, cond}
 use mathlib.Core.List.{List, [], _∷_, _++_}
-use Prim.Native.Nat.{ℕ, zero, suc, _<_, _≤_}
+use Prim.Native.Nat.{ℕ, _<_, _≤_}
 use native.Mathlib.Omega.{arith}
 use borrow.Author.Tests.{lt-ltb, le-ltb, ltb-false}
 use lib.Dec.{ltb}
 use lib.ListN.{length, getD, set, drop}
-use Rattle.refusal.specs.Outcome.{gives, refuses, outcome, check, unlessRefused}
+use Rattle.refusal.specs.Outcome.{check, unlessRefused}
 use Rattle.msc_state.specs.declared.State.{State}
 use Rattle.msc_state.specs.States.{anyOf}
 use Rattle.msc_state.proofs.Refusals.{none-of, off-at, last-flag, clean, zeroed, later, held-not}
@@ -105,12 +105,3 @@ eight n h = rw (lt-ltb _ _ h) refl
 
 pub none : (n : ℕ) → 11 ≤ n → 0 ≡ short 11 n
 none n h = rw (le-ltb _ _ h) refl
-
--- what a reading says
-pub reads-no : (n k : ℕ) (s : State) → k ≡ n → (k ≡ 0 → ⊥) → refuses k ≡ outcome n s
-reads-no zero k s e h = absurd (h e)
-reads-no (suc n) k s e h = ap refuses e
-
-pub reads : (n : ℕ) (s t : State) → n ≡ 0 → t ≡ s → gives t ≡ outcome n s
-reads zero s t z e = ap gives e
-reads (suc n) s t z e = absurd (omega (arith, z))

@@ -2,7 +2,8 @@
 -- Assumes nothing.
 use mathlib.Core.Path.{sym, _∙_}
 use borrow.Author.Needs.{needs}
-use Rattle.state_numbers.proofs.Numbers.{readable, reads-no, reads}
+use Rattle.refusal.proofs.Laws.{refused-by, given-by}
+use Rattle.state_numbers.proofs.Numbers.{readable}
 use Rattle.state_numbers.proofs.read.Statement.{statement}
 use Rattle.state_numbers.proofs.read.Tie as tie
 
@@ -10,7 +11,7 @@ refusal-of-requires : tie.Need-refusal-of-requires
 refusal-of-requires c κs = search needs
 
 returns : tie.Need-returns
-returns c = reads-no _ _ _ (c .before .refusal-of .ensures) (c .if1 .taken)
+returns c = refused-by _ _ _ (c .before .refusal-of .ensures) (c .if1 .taken)
 
 state-of-requires : tie.Need-state-of-requires
 state-of-requires c κs =
@@ -18,7 +19,7 @@ state-of-requires c κs =
     (r .long, r .ranged)
 
 returns-2 : tie.Need-returns-2
-returns-2 c = reads _ _ _ (sym (c .before .before .refusal-of .ensures) ∙ c .before .if1 .left) (c .state-of .ensures)
+returns-2 c = given-by _ _ _ (sym (c .before .before .refusal-of .ensures) ∙ c .before .if1 .left) (c .state-of .ensures)
 
 pub read-spec : {M : Type 1} → statement M
 read-spec = tie.close (tie.spec refusal-of-requires returns state-of-requires returns-2)
