@@ -51,6 +51,12 @@ static uint8_t feed(const int8_t *soft, size_t n) {
                                  STEPS, frame, sizeof frame, length, 1, percent, 1);
 }
 
+/* A frame that reached nobody is a failure of the whole. */
+static int unwritten(void) {
+    perror("the frames are not written");
+    return 1;
+}
+
 int main(int argc, char **argv) {
     if (argc != 7) {
         fprintf(stderr, "usage: %s START SIZE BITRATE LEVEL OPTION IS_EEP < RECORDING > FRAMES\n", argv[0]);
@@ -94,9 +100,16 @@ int main(int argc, char **argv) {
         if (length[0] == 0)
             continue; /* waiting: within a CIF, or one of the first sixteen */
         if (fwrite(frame, 1, (size_t)length[0], stdout) != length[0])
-            return 1;
+            return unwritten();
         frames++;
     }
+    if (ferror(stdin)) {
+        perror("the recording is not read");
+        return 1;
+    }
+    /* The last of them may still be kept back; only this tells whether they can be written. */
+    if (fflush(stdout) != 0)
+        return unwritten();
     fprintf(stderr, "%lu symbols, %lu frames", symbols, frames);
     if (frames > 0)
         fprintf(stderr, ", the last of %.1f %%", percent[0]);

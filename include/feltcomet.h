@@ -10,7 +10,7 @@
  *
  *    1  EEP option above 1
  *    2  EEP level above 3
- *    3  L1 negative: the bit rate is too low for the level
+ *    3  L1 negative: the bit rate is too low for the level (8 kbit/s at 2-A too, for which EN 300 401 has a row of its own)
  *    4  no UEP profile for rate and level
  *    5  EEP: the size differs from what is needed; UEP: it is less, or over by more than 8 values
  *    6  EEP bit rate no multiple of 8 (option 0) or 32 (option 1)
@@ -22,9 +22,15 @@
  *
  * A soft value is positive for 1, negative for 0 and zero for an erasure; -128 is legal and has weight 128.
  *
- * A sub-channel's description is six numbers, as FIG 0/1 gives them: start and size in capacity units of 64 values, bit rate in kbit/s,
+ * A sub-channel's description is six numbers, as they follow from FIG 0/1: start and size in capacity units of 64 values, bit rate in kbit/s,
  * protection level (EEP: 0 to 3 for 1-A to 4-A and 1-B to 4-B; UEP: 1 to 5), EEP option (0 for A, 1 for B), and whether it is EEP: 0 no,
- * any other number yes. For UEP the option is not looked at.
+ * any other number yes. For UEP the option is not looked at. FIG 0/1 has no bit rate: its long form (EEP) gives size, option and level, and
+ * the rate is 8 for each 12, 8, 6 or 4 units of 1-A to 4-A, 32 for each 27, 21, 18 or 15 units of 1-B to 4-B; its short form (UEP) gives the
+ * number of a row of clause 6.2.1's table, which has size, level and rate.
+ *
+ * The percentage of a block or a frame is metric / sum x 100, where sum is that of the absolute depunctured values, and 0.0 where the sum is
+ * 0. The metric is the best path's score less all that was subtracted from it on the way (each time it passed 100,000). So the percentage
+ * can be negative, and of a strong signal without a fault it can be near 0: it is no measure of the signal's strength.
  */
 #ifndef FELTCOMET_H
 #define FELTCOMET_H
@@ -85,7 +91,7 @@ uint8_t feltcomet_viterbi_decode_with_metric(const int8_t *soft, size_t soft_len
 /* The FIC: three symbols of up to 3,072 soft values, joined in order and cut into blocks of 2,304, the rest dropped. Each block is
  * depunctured, decoded, dispersed afresh and cut into three FIBs; those with a good CRC are written into fibs one after another, 32 bytes
  * each. counts[0] gets how many in all and counts[1] to counts[4] how many of each of four blocks; metrics[0] to metrics[3] the metric and
- * metrics[4] to metrics[7] the sum of absolute depunctured values of each; percents[0] to percents[3] metric / sum x 100; all 0 for a block
+ * metrics[4] to metrics[7] the sum of absolute depunctured values of each; percents[0] to percents[3] the percentage; all 0 for a block
  * that is not there. Room, even with no whole block: 3,096 depunctured, 774 words and 774 bits; 96 fibs for each whole block; 5 counts,
  * 8 metrics, 4 percents. Refusal 11, then 8. */
 uint8_t feltcomet_process_fic(const int8_t *first, size_t first_length, const int8_t *second, size_t second_length, const int8_t *third,

@@ -111,19 +111,37 @@ fn compare(options: Options) -> Result<ExitCode, String> {
     }
     let (mut passed, mut failed) = (0, 0);
     for check in &chosen {
-        if holds(check, &run) { passed += 1 } else { failed += 1 }
+        match judged(check, &run) {
+            Verdict::Passed => passed += 1,
+            Verdict::Failed => failed += 1,
+            Verdict::NotRun => {}
+        }
     }
     if only.is_none() {
         failed += left_out(&options.exports.ok_or("which --exports?")?)?;
+    }
+    if passed + failed == 0 {
+        return Err("nothing was compared".to_string());
     }
     println!("{passed} passed, {failed} failed");
     Ok(if failed == 0 { ExitCode::SUCCESS } else { ExitCode::FAILURE })
 }
 
+/// How a comparison ended. What could not be run has neither passed nor failed.
+enum Verdict {
+    Passed,
+    Failed,
+    NotRun,
+}
+
 /// Runs one comparison and prints its line. A panic in it is a failure of it alone.
-fn holds(check: &Check, run: &Run) -> bool {
+fn judged(check: &Check, run: &Run) -> Verdict {
     let mut tally = Tally::default();
     let outcome = catch_unwind(AssertUnwindSafe(|| (check.compare)(run, &mut tally)));
+    if let (Ok(Ok(())), Some(why)) = (&outcome, tally.not_run) {
+        println!("{}: not run, {why}", check.name);
+        return Verdict::NotRun;
+    }
     let mut line = format!("{}: {} compared", check.name, tally.compared);
     if tally.modelled > 0 {
         line += &format!(", {} held against the model", tally.modelled);
@@ -136,13 +154,13 @@ fn holds(check: &Check, run: &Run) -> bool {
     }
     println!("{line}");
     let why = match outcome {
-        Ok(Ok(())) if tally.compared >= check.least => return true,
+        Ok(Ok(())) if tally.compared >= check.least => return Verdict::Passed,
         Ok(Ok(())) => format!("at least {} inputs were to be compared", check.least),
         Ok(Err(why)) => why,
         Err(_) => "it panicked, see above".to_string(),
     };
     println!("{}: FAILED with seed {}: {why}", check.name, run.seed);
-    false
+    Verdict::Failed
 }
 
 /// Names in functions.txt without a comparison, and exports of the library without one.

@@ -14,6 +14,9 @@ use std::time::{Duration, Instant};
 const FRAME: usize = 9_216;
 const AT_ONCE: usize = 1 << 20;
 
+/// All that the three recordings hold, in bytes: an empty one is not to be found the same.
+const RECORDED: u64 = 129_024 + 134_024 + 3_225_600;
+
 /// Longer than any input takes here.
 const PATIENCE: Duration = Duration::from_secs(120);
 
@@ -33,8 +36,9 @@ pub fn compare(program: &Path, run: &Run) -> Outcome {
     programs.long_files(run, &mut random)?;
     programs.ends(run, &mut random)?;
     programs.pieces(run, &mut random)?;
-    if let Some(folder) = &run.recordings {
-        programs.recordings(folder)?;
+    match &run.recordings {
+        Some(folder) => programs.recordings(folder)?,
+        None => println!("fic, recordings: not run, {}", recordings::NOT_AT_HAND),
     }
     programs.failed_writes(&mut random)?;
     println!("fic: {} inputs of {} bytes in all, the same output", programs.compared, programs.bytes);
@@ -84,6 +88,7 @@ impl Programs {
     }
 
     fn recordings(&mut self, folder: &Path) -> Outcome {
+        let before = self.bytes;
         for (name, fibs) in [("fic.soft", "ensemble.fibs"), ("fic-damaged.soft", "fic-damaged.fibs")] {
             let (input, fibs) = (recordings::bytes(folder, name)?, recordings::bytes(folder, fibs)?);
             self.same(&input, AT_ONCE)?;
@@ -91,7 +96,8 @@ impl Programs {
             same(["the recording's FIBs", "ours"], fibs, given, || name.to_string())?;
         }
         // The whole ensemble, FIC or not.
-        self.same(&recordings::bytes(folder, "ensemble.soft")?, 50_000)
+        self.same(&recordings::bytes(folder, "ensemble.soft")?, 50_000)?;
+        same(["bytes of recordings", "compared"], RECORDED, self.bytes - before, || folder.display().to_string())
     }
 
     /// Output that cannot be written ends the program, however much input is left.

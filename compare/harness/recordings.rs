@@ -3,6 +3,9 @@
 use crate::description::Description;
 use std::path::Path;
 
+/// What a comparison says that goes without them.
+pub const NOT_AT_HAND: &str = "no recordings at hand";
+
 /// A sub-channel of the recorded ensemble, by the name of its file of frames.
 pub fn sub_channels() -> [(&'static str, Description); 3] {
     [

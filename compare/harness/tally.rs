@@ -15,6 +15,8 @@ pub struct Tally {
     pub listed: u64,
     /// What else the comparison counted, in words.
     pub note: String,
+    /// Why it could not be run at all, where it could not.
+    pub not_run: Option<&'static str>,
 }
 
 impl Tally {

@@ -7,6 +7,7 @@ use crate::random::Random;
 use crate::recordings::{self, sub_channels};
 use crate::samples::{anywhere_in_cif, shapes};
 use crate::tally::{Outcome, Tally, same};
+use std::fs::File;
 use std::io::Write;
 use std::process::{Command, Output, Stdio};
 
@@ -24,8 +25,15 @@ pub fn compare(run: &Run, tally: &mut Tally) -> Outcome {
     one(&d, &recording[..recording.len() - 1], &frames[..frames.len() - 24], tally)?;
     one(&d, &recording[..100_000], &[], tally)?;
     refused(&d.sized(5), "set-up: refused with 5", tally)?;
+    // Few frames, which are first written at the end, and more than are kept back.
+    unwritten(&d, &recording, tally)?;
+    let d = Description::eep(0, 2, 192).sized(144).at(0);
+    unwritten(&d, &recorded(&d, 32, &mut random).0, tally)?;
 
-    let Some(folder) = &run.recordings else { return Ok(()) };
+    let Some(folder) = &run.recordings else {
+        tally.note = format!("recordings not run, {}", recordings::NOT_AT_HAND);
+        return Ok(());
+    };
     for (name, d) in sub_channels() {
         let sent = recordings::bytes(folder, name)?;
         let whole = 40 * 3 * usize::from(d.bitrate);
@@ -49,7 +57,7 @@ fn recorded(d: &Description, cifs: usize, random: &mut Random) -> (Vec<u8>, Vec<
 }
 
 fn one(d: &Description, recording: &[u8], frames: &[u8], tally: &mut Tally) -> Outcome {
-    let output = example(d, recording)?;
+    let output = example(d, recording, Stdio::piped())?;
     let input = || format!("{d:?}, a recording of {} values", recording.len());
     same(["an exit status of", "the example's"], Some(0), output.status.code(), input)?;
     told(&output, "refused with 7")?;
@@ -58,8 +66,17 @@ fn one(d: &Description, recording: &[u8], frames: &[u8], tally: &mut Tally) -> O
 }
 
 fn refused(d: &Description, text: &str, tally: &mut Tally) -> Outcome {
-    let output = example(d, &[])?;
-    told(&output, text)?;
+    failed(d, &example(d, &[], Stdio::piped())?, text, tally)
+}
+
+/// Frames that a full disk does not take.
+fn unwritten(d: &Description, recording: &[u8], tally: &mut Tally) -> Outcome {
+    let full = File::options().write(true).open("/dev/full").map_err(|e| format!("/dev/full: {e}"))?;
+    failed(d, &example(d, recording, Stdio::from(full))?, "the frames are not written", tally)
+}
+
+fn failed(d: &Description, output: &Output, text: &str, tally: &mut Tally) -> Outcome {
+    told(output, text)?;
     tally.compared += 1;
     same(["an exit status of", "the example's"], Some(1), output.status.code(), || format!("{d:?}"))
 }
@@ -70,12 +87,12 @@ fn told(output: &Output, text: &str) -> Outcome {
 }
 
 /// The program beside this one, with the recording as its standard input.
-fn example(d: &Description, recording: &[u8]) -> Result<Output, String> {
+fn example(d: &Description, recording: &[u8], frames: Stdio) -> Result<Output, String> {
     let here = std::env::current_exe().map_err(|e| e.to_string())?;
     let numbers = [d.start_addr, d.sub_size, d.bitrate, d.protection_level.into(), d.eep_option.into()];
     let mut command = Command::new(here.with_file_name("example"));
     command.args(numbers.map(|n| n.to_string())).arg(u8::from(d.is_eep()).to_string());
-    command.stdin(Stdio::piped()).stdout(Stdio::piped()).stderr(Stdio::piped());
+    command.stdin(Stdio::piped()).stdout(frames).stderr(Stdio::piped());
     let mut child = command.spawn().map_err(|e| format!("the example does not start: {e}"))?;
     let mut input = child.stdin.take().unwrap();
     std::thread::scope(|scope| {

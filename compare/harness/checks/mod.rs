@@ -81,7 +81,8 @@ pub const CHECKS: &[Check] = &[
     #[cfg(all(with = "set_up", with = "reset", with = "feed_symbol"))]
     Check { name: "agreement", least: 500, compare: agreement::compare },
     #[cfg(all(with = "process_fic", with = "set_up", with = "reset", with = "feed_symbol"))]
-    Check { name: "recordings", least: 0, compare: recordings::compare },
+    // All that they have: twice 14 frames of FIC, and 14 of 72 symbols for each of three sub-channels.
+    Check { name: "recordings", least: 2 * 14 + 3 * 14 * 72, compare: recordings::compare },
     #[cfg(all(with = "set_up", with = "reset", with = "feed_symbol"))]
-    Check { name: "example", least: 8, compare: example::compare },
+    Check { name: "example", least: 11, compare: example::compare },
 ];

@@ -119,7 +119,9 @@ pub fn held(symbols: [&[i8]; 3], before: &FicStores, tally: &mut Tally) -> Outco
 
     let passed = model.counts[0] as usize;
     same(["the model", "the Rust"], &model.fibs[..32 * passed], &fibs.concat()[..], input)?;
-    let blocks = lines.len();
+    // From the lengths: a log without lines is not to agree with no records.
+    let blocks = symbols.iter().map(|symbol| symbol.len()).sum::<usize>() / 2_304;
+    same(["whole blocks", "lines in the Rust's log"], blocks, lines.len(), input)?;
     let records = (0..blocks).map(|k| Logged {
         metric: model.metrics[k],
         sum: model.metrics[4 + k],

@@ -3,7 +3,7 @@
 use super::Run;
 use super::process_fic;
 use super::receivers::Receivers;
-use crate::recordings::{FIC_VALUES, FRAME_VALUES, bytes, soft, sub_channels};
+use crate::recordings::{FIC_VALUES, FRAME_VALUES, NOT_AT_HAND, bytes, soft, sub_channels};
 use crate::stores::FicStores;
 use crate::tally::{Outcome, Tally, same};
 use crate::theirs;
@@ -11,7 +11,7 @@ use std::path::Path;
 
 pub fn compare(run: &Run, tally: &mut Tally) -> Outcome {
     let Some(folder) = &run.recordings else {
-        tally.note = "not at hand".to_string();
+        tally.not_run = Some(NOT_AT_HAND);
         return Ok(());
     };
     let ensemble = soft(folder, "ensemble.soft")?;

@@ -12,9 +12,9 @@ use Rattle.protection.specs.declared.Description.{Description}
 use Rattle.protection.specs.Refusals.{refusalOf, roomOf}
 use Rattle.msc_state.specs.declared.State.{State}
 use Rattle.msc_handler.specs.Promises.{Buffers, refusalIn, completes, turnAt, turnOf}
-use Rattle.msc_state.specs.States.{badState, valuesOf, ringRoom, frameRoom, lacksRoom, feedRefusal, stepsOf}
-use Rattle.msc_state.proofs.Refusals.{Sound, Roomy}
-use Rattle.agreement.specs.Calls.{Held, Came, History}
+use Rattle.msc_state.specs.States.{badState, valuesOf, ringRoom, frameRoom, lacksRoom, Roomy, feedRefusal, stepsOf}
+use Rattle.msc_state.proofs.Refusals.{Sound}
+use Rattle.agreement.specs.Calls.{Held, Came, History, RoomIn}
 use Rattle.agreement.proofs.Symbols.{description-is, state-sound}
 
 not-bad : (s : State) → Sound s → badState s ≡ false
@@ -26,10 +26,6 @@ enough : (d : Description) (cif ring deinterleaved depunctured words bits frame 
 unfolding lacksRoom
 enough d cif ring deinterleaved depunctured words bits frame h =
     rw (le-ltb cif cifBits (h .cif-long), le-ltb ring (ringRoom d) (h .ring-long), le-ltb deinterleaved (valuesOf d) (h .read-long), le-ltb depunctured (roomOf d) (h .soft-long), le-ltb words (stepsOf (d .bitrate)) (h .words-long), le-ltb bits (stepsOf (d .bitrate)) (h .bits-long), le-ltb frame (frameRoom d) (h .frame-long))
-
--- what is lent is long enough
-abbrev pub RoomIn : Description → Buffers → Type 0
-RoomIn d b = Roomy d (length (b .cif)) (length (b .ring)) (length (b .deinterleaved)) (length (b .depunctured)) (length (b .words)) (length (b .bits)) (length (b .frame))
 
 module _ {d : Description} {h : Held} {c : Came} (x : History d h c) (soft : List ℤ) (b : Buffers) (room : RoomIn d b) (long : symbolBits ≤ length soft) where
   pub never-refused : refusalIn (h .state) soft b ≡ 0

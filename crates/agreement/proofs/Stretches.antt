@@ -31,7 +31,7 @@ use Rattle.msc_handler.specs.Promises.{Said, framed, Buffers, delayed, Complete
 use Rattle.msc_state.specs.States.{valuesOf}
 use Rattle.msc_handler.proofs.Feeding.{delayed-length}
 use Rattle.agreement.specs.Sender.{Sender, padded, sent, frameBit, sentBit}
-use Rattle.agreement.specs.Calls.{keptOf, Yields}
+use Rattle.agreement.specs.Calls.{keptOf, Yields, SameAnswer}
 use Rattle.agreement.proofs.Frames.{sent-long, frame-back}
 
 -- a channel whose ring has these values in its last sixteen stretches, by stretch and place: value i is to be read of stretch delay i
@@ -82,11 +82,6 @@ module _ (d : Description) (ok : Accepted d) (s : Sender d) (r : ℕ) where
       values i l =
           subst (Agrees (at (delayed c (b .ring)) i)) (sent-in i l)
           (subst (λ (v : ℤ). Agrees v (sentBit d s (r + delay i) i)) (sym (h .read i (omega (arith, accepted-size d ok .0)))) (agree i l))
-
--- one answer, and one frame at the front of the frame buffer
-pub record SameAnswer (d : Description) (said said₂ : Said) (b' b₂' : Buffers) : Type 0 where
-  pub said-one : said ≡ said₂
-  pub bytes-one : take (3 * d .bitrate) (b' .frame) ≡ take (3 * d .bitrate) (b₂' .frame)
 
 -- the bytes at the front are those of the decoded bits
 front-is : {ends : Ends} {rate : ℕ} {soft : List ℤ} {words bits frame : List ℕ} {percent : Float} {words' bits' frame' : List ℕ} (f : Framed ends rate soft words bits frame percent words' bits' frame') → take (3 * rate) frame' ≡ bytesOf (frameBits rate (f .decoded))

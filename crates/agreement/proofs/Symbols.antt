@@ -11,6 +11,7 @@ use lib.ListN.{length, getD, length-append, List·getD-append}
 use lib.Seq.{getD-append-add}
 use lib.IntN.{ℤ, pos}
 use Rattle.laws.specs.Integers.{at}
+use Rattle.laws.proofs.Lists.{rejoined}
 use Rattle.en300401.specs.Interleaving.{delay, symbolBits, cifBits}
 use Rattle.en300401.proofs.Interleaving.{delay-lt}
 use Rattle.protection.specs.declared.Description.{Description}
@@ -25,10 +26,11 @@ use Rattle.msc_handler.specs.History.{symbolOf, Since, begun, restarted, taken,
 use Rattle.msc_handler.specs.Promises.{Buffers, refusalIn, Turn, refuses as turns-away, gathers, completes, turnAt, turnOf, delayed}
 use Rattle.msc_set_up.specs.Promises.{Prepared}
 use Rattle.msc_state.specs.States.{badState, valuesOf, setUpChecks, setUpRefusal, resetChecks, resetRefusal, whole}
+use Rattle.msc_handler.proofs.Feeding.{fed-refuses}
 use Rattle.msc_handler.proofs.History.{history, read-back}
 use Rattle.msc_state.proofs.Refusals.{clean, zeroed, held-not, Sound, sound}
 use Rattle.agreement.specs.Sender.{placeOf}
-use Rattle.agreement.specs.Calls.{Cif, valueAt, Held, held, Came, after, FeedCall, History, set-up, reset, set-up-refused, reset-refused, fed, LastSixteen}
+use Rattle.agreement.specs.Calls.{Cif, valueAt, Held, held, Came, after, HeldCall, History, RefusedCall, set-up-refused, reset-refused, feed-refused, set-up, reset, refused, fed, LastSixteen}
 
 -- ---- CIFs of eighteen symbols, one after the other
 
@@ -84,9 +86,6 @@ module _ {n : ℕ} {d : Description} {other : State} {ring : List ℤ} {r : SetU
   not-refused : judgedAs (r .answer) ≡ gives tt → n ≡ 0
   not-refused e = accepted-none n (sym (p .answer) ∙ e)
 
-  state-kept : (k : ℕ) → judgedAs (r .answer) ≡ refuses k → r .state ≡ other
-  state-kept k e = p .state ∙ refused-second n k _ other (sym (p .answer) ∙ e)
-
   ring-kept : (k : ℕ) → judgedAs (r .answer) ≡ refuses k → ring' ≡ ring
   ring-kept k e = p .ring-is ∙ refused-second n k _ ring (sym (p .answer) ∙ e)
 
@@ -111,6 +110,15 @@ turn-completes zero true e = (refl, refl)
 turn-completes zero false e = let z : _≡_ {A = ℕ} 0 1 = cc in absurd (omega arith)
 turn-completes (suc n) w e = let z : _≡_ {A = ℕ} 0 1 = cc in absurd (omega arith)
 
+-- a refused call leaves what was held
+as-held : {h h' : Held} → RefusedCall h h' → (h' .state ≡ h .state) × (h' .cif ≡ h .cif) × (h' .ring ≡ h .ring)
+unfolding turnOf
+as-held (set-up-refused n k d r ring' p e) = (refl, refl, rejoined k (ring-kept p n e))
+as-held (reset-refused n k s r ring' p e) = (refl, refl, rejoined k (ring-kept p n e))
+as-held (feed-refused n j k s soft b r b' c g p e) =
+    let u = fed-refuses s soft b p (turn-refuses (refusalIn s soft b) n (whole s) e) .1 in
+    (refl, rejoined j (ap (λ (x : Buffers). x .cif) u ∙ c), rejoined k (ap (λ (x : Buffers). x .ring) u ∙ g))
+
 -- ---- a history is one of the handler's, and its CIFs have eighteen symbols
 
 record Counted (d : Description) (h : Held) (c : Came) : Type 0 where
@@ -133,7 +141,7 @@ module _ {d : Description} {h : Held} {c : Came} (v : Counted d h c) where
   renamed {s} {cif} {ring} e f g =
       record { since = subst (λ (x : Held). Since d (flat c) (x .state) (x .cif) (x .ring)) (λ i. held (sym e i) (sym f i) (sym g i)) (v .since); wholes = v .wholes; short = v .short }
 
-  module _ {soft : List ℤ} {b : Buffers} {r : Fed} {b' : Buffers} (call : FeedCall h soft b r b') where
+  module _ {soft : List ℤ} {b : Buffers} {r : Fed} {b' : Buffers} (call : HeldCall h soft b r b') where
     now : Since d (flat c) (h .state) (b .cif) (b .ring)
     now = subst (λ (x : Held). Since d (flat c) (x .state) (x .cif) (x .ring)) (λ i. held (h .state) (sym (call .cif-kept) i) (sym (call .ring-kept) i)) (v .since)
 
@@ -164,8 +172,7 @@ counted : {d : Description} {h : Held} {c : Came} → History d h c → Counted 
 unfolding joined
 counted (set-up cif ring r ring' p e) = record { since = begun cif (not-refused p e) p; wholes = no-cif; short = omega arith }
 counted (reset s cif ring r ring' q p e) = record { since = restarted cif q (not-refused p e) p; wholes = no-cif; short = omega arith }
-counted (set-up-refused n d' r ring' x p e) = renamed (counted x) refl refl (ring-kept p n e)
-counted (reset-refused n r ring' x p e) = renamed (counted x) (state-kept p n e) refl (ring-kept p n e)
+counted (refused x q) = let k = as-held q in renamed (counted x) (k .0) (k .1) (k .2)
 counted (fed {h} {c} soft b r b' x call) = counted-next (counted x) call (turnOf (h .state) soft b) refl
 
 -- the description was accepted
@@ -173,8 +180,7 @@ pub accepted-since : {d : Description} {h : Held} {c : Came} → History d h c �
 unfolding setUpRefusal resetRefusal
 accepted-since {d} (set-up cif ring r ring' p e) = zeroed (clean (setUpChecks d (length ring)) (not-refused p e))
 accepted-since (reset s cif ring r ring' q p e) = subst Accepted q (sound s (held-not 9 (badState s) (zeroed (clean (resetChecks s (length ring)) (not-refused p e)))) .description)
-accepted-since (set-up-refused n d' r ring' x p e) = accepted-since x
-accepted-since (reset-refused n r ring' x p e) = accepted-since x
+accepted-since (refused x q) = accepted-since x
 accepted-since (fed soft b r b' x call) = accepted-since x
 
 -- ---- what is to be read of the ring once sixteen CIFs are whole

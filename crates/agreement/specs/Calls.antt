@@ -2,7 +2,7 @@
 use mathlib.Core.Path.{_≡_}
 use mathlib.Core.List.{List, [], _∷_, _++_}
 use Prim.Native.Nat.{ℕ, _+_, _*_, _/_, _%_, _<_}
-use lib.ListN.{length, getD, take}
+use lib.ListN.{length, getD, take, drop}
 use lib.IntN.{ℤ}
 use lib.Ieee.{Float}
 use Rattle.laws.specs.Integers.{at}
@@ -16,6 +16,7 @@ use Rattle.refusal.specs.Outcome.{gives, refuses}
 use Rattle.msc_handler.specs.declared.Fed.{Fed}
 use Rattle.msc_set_up.specs.declared.SetUp.{SetUp}
 use Rattle.msc_state.specs.declared.State.{State}
+use Rattle.msc_state.specs.States.{Roomy}
 use Rattle.msc_handler.specs.History.{symbolOf}
 use Rattle.msc_handler.specs.Promises.{Said, framed, Buffers, Turn, refuses as turns-away, gathers, completes, turnOf, FeedPromise}
 use Rattle.msc_set_up.specs.Promises.{SetUpPromise, ResetPromise}
@@ -53,18 +54,24 @@ after gathers soft c = came (c .cifs) (c .begun ++ (symbolOf soft ∷ []))
 after completes soft c = came (c .cifs ++ ((c .begun ++ (symbolOf soft ∷ [])) ∷ [])) []
 
 -- a feed call: any symbol; the state and the stores as they were held; the five work buffers of any length and content
-pub record FeedCall (h : Held) (soft : List ℤ) (b : Buffers) (r : Fed) (b' : Buffers) : Type 0 where
+pub record HeldCall (h : Held) (soft : List ℤ) (b : Buffers) (r : Fed) (b' : Buffers) : Type 0 where
   pub cif-kept : b .cif ≡ h .cif
   pub ring-kept : b .ring ≡ h .ring
   pub promise : FeedPromise (h .state) soft b r b'
 
--- the calls since a description was set up, or any state that has it was reset: any number, in any order; after a refused one the caller goes on with what it held
+-- a refused call of one of the three: of any state or description, lent any front part of the stores; the caller goes on with what it held
+pub data RefusedCall (h : Held) : Held → Type 0 where
+  set-up-refused : (n k : ℕ) (d : Description) (r : SetUp) (ring' : List ℤ) → SetUpPromise d (take k (h .ring)) r ring' → judgedAs (r .answer) ≡ refuses n → RefusedCall h (held (h .state) (h .cif) (ring' ++ drop k (h .ring)))
+  reset-refused : (n k : ℕ) (s : State) (r : SetUp) (ring' : List ℤ) → ResetPromise s (take k (h .ring)) r ring' → judgedAs (r .answer) ≡ refuses n → RefusedCall h (held (h .state) (h .cif) (ring' ++ drop k (h .ring)))
+  feed-refused : (n j k : ℕ) (s : State) (soft : List ℤ) (b : Buffers) (r : Fed) (b' : Buffers) → b .cif ≡ take j (h .cif) → b .ring ≡ take k (h .ring) → FeedPromise s soft b r b' → turnOf s soft b ≡ turns-away n
+      → RefusedCall h (held (h .state) (b' .cif ++ drop j (h .cif)) (b' .ring ++ drop k (h .ring)))
+
+-- the calls since a description was set up, or any state that has it was reset: any number, in any order
 pub data History (d : Description) : Held → Came → Type 0 where
   set-up : (cif ring : List ℤ) (r : SetUp) (ring' : List ℤ) → SetUpPromise d ring r ring' → judgedAs (r .answer) ≡ gives tt → History d (held (r .state) cif ring') (came [] [])
   reset : (s : State) (cif ring : List ℤ) (r : SetUp) (ring' : List ℤ) → s .channel .description ≡ d → ResetPromise s ring r ring' → judgedAs (r .answer) ≡ gives tt → History d (held (r .state) cif ring') (came [] [])
-  set-up-refused : {h : Held} {c : Came} (n : ℕ) (d' : Description) (r : SetUp) (ring' : List ℤ) → History d h c → SetUpPromise d' (h .ring) r ring' → judgedAs (r .answer) ≡ refuses n → History d (held (h .state) (h .cif) ring') c
-  reset-refused : {h : Held} {c : Came} (n : ℕ) (r : SetUp) (ring' : List ℤ) → History d h c → ResetPromise (h .state) (h .ring) r ring' → judgedAs (r .answer) ≡ refuses n → History d (held (r .state) (h .cif) ring') c
-  fed : {h : Held} {c : Came} (soft : List ℤ) (b : Buffers) (r : Fed) (b' : Buffers) → History d h c → FeedCall h soft b r b' → History d (held (r .state) (b' .cif) (b' .ring)) (after (turnOf (h .state) soft b) soft c)
+  refused : {h h' : Held} {c : Came} → History d h c → RefusedCall h h' → History d h' c
+  fed : {h : Held} {c : Came} (soft : List ℤ) (b : Buffers) (r : Fed) (b' : Buffers) → History d h c → HeldCall h soft b r b' → History d (held (r .state) (b' .cif) (b' .ring)) (after (turnOf (h .state) soft b) soft c)
 
 -- the sub-channel's kept values, those that stand for a bit of a code word: its first ones; padding may follow
 abbrev pub keptOf : Description → ℕ
@@ -95,8 +102,17 @@ pub record Sixteen (d : Description) (s : Sender d) (r : ℕ) (cifs : List Cif) 
   pub run : LastSixteen cifs
   pub agree : (i : ℕ) → i < keptOf d → AgreesAt d s (r + delay i) (getD (run .last) (delay i) []) i
 
+-- what is lent is long enough
+abbrev pub RoomIn : Description → Buffers → Type 0
+RoomIn d b = Roomy d (length (b .cif)) (length (b .ring)) (length (b .deinterleaved)) (length (b .depunctured)) (length (b .words)) (length (b .bits)) (length (b .frame))
+
 -- a frame of these bytes is answered, and the frame buffer begins with them
 pub record Yields (d : Description) (frame : List ℕ) (said : Said) (b' : Buffers) : Type 0 where
   pub percent : Float
   pub answer : said ≡ framed (3 * d .bitrate) percent
   pub bytes : take (3 * d .bitrate) (b' .frame) ≡ frame
+
+-- one answer, and one frame at the front of the frame buffer
+pub record SameAnswer (d : Description) (said said₂ : Said) (b' b₂' : Buffers) : Type 0 where
+  pub said-one : said ≡ said₂
+  pub bytes-one : take (3 * d .bitrate) (b' .frame) ≡ take (3 * d .bitrate) (b₂' .frame)

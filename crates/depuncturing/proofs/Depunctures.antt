@@ -21,7 +21,7 @@ use Rattle.protection.specs.declared.Judged.{Judged}
 use Rattle.protection.specs.declared.Judged.the-variants.{«Accepted» as judged-accepted, «Refused» as judged-refused}
 use Rattle.protection.specs.Answers.{judgedAs}
 use Rattle.protection.specs.Params.{paramsOf, regionsIn}
-use Rattle.depuncturing.specs.Promises.{mscRefusalOf, DepuncturePromise, MscPromise}
+use Rattle.depuncturing.specs.Promises.{mscRefusalOf, DepuncturePromise, DepuncturedMsc}
 use Rattle.depuncturing.specs.Code.{Fillable}
 use Rattle.protection.specs.Refusals.{rowRefusals, shapeRefusals, refusalOf, roomOf, profileOf}
 use Rattle.protection.proofs.Params.{mask-by, mother-by, params-vectors}
@@ -59,7 +59,7 @@ module _ {n need : ℕ} {profile : List Region} {soft before after : List ℤ} {
 
 module _ (d : Description) (soft before : List ℤ) where
   -- refused by 1 to 7
-  pub msc-refused : (x : Refusal) {j : Judged} → judgedAs j ≡ outcome (refusalOf d) tt → j ≡ judged-refused x → MscPromise d soft before before (judged-refused x)
+  pub msc-refused : (x : Refusal) {j : Judged} → judgedAs j ≡ outcome (refusalOf d) tt → j ≡ judged-refused x → DepuncturedMsc d soft before before (judged-refused x)
   msc-refused x {j} e q =
       record {
         answer = first-refused (refusalOf d) (check 8 (ltb (length before) (roomOf d))) tt tt (x .number) r ∙ ap (λ (m : ℕ). outcome m tt) (sym (msc-split d (length before)));

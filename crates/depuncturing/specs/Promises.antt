@@ -25,8 +25,8 @@ pub record DepuncturePromise (n need : ℕ) (profile : List Region) (soft before
   pub answer : judgedAs r ≡ outcome n tt
   pub places : after ≡ unlessRefused n (depuncture (mask profile) soft ++ drop need before) before
 
-abbrev pub MscPromise : Description → List ℤ → List ℤ → List ℤ → Judged → Type 0
-MscPromise d soft before after r = DepuncturePromise (mscRefusalOf d (length before)) (roomOf d) (profileOf d) soft before after r
+abbrev pub DepuncturedMsc : Description → List ℤ → List ℤ → List ℤ → Judged → Type 0
+DepuncturedMsc d soft before after r = DepuncturePromise (mscRefusalOf d (length before)) (roomOf d) (profileOf d) soft before after r
 
-abbrev pub FicPromise : List ℤ → List ℤ → List ℤ → Judged → Type 0
-FicPromise soft before after r = DepuncturePromise (ficRefusalOf (length before)) 3096 ficProfile soft before after r
+abbrev pub DepuncturedFic : List ℤ → List ℤ → List ℤ → Judged → Type 0
+DepuncturedFic soft before after r = DepuncturePromise (ficRefusalOf (length before)) 3096 ficProfile soft before after r

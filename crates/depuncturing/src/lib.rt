@@ -9,7 +9,7 @@ ghost use Rattle.laws.specs.Words.{pickN};
 ghost use Rattle.en300401.specs.Puncturing.{mask, depuncture, regionMask};
 ghost use Rattle.protection.specs.Params.{region, regionsIn};
 ghost use Rattle.depuncturing.specs.Code.{flag, flags, Fillable, Runs};
-ghost use Rattle.depuncturing.specs.Promises.{MscPromise, FicPromise};
+ghost use Rattle.depuncturing.specs.Promises.{DepuncturedMsc, DepuncturedFic};
 use protection::Description;
 use protection::Judged;
 use protection::ProtectionParams;
@@ -100,7 +100,7 @@ fn fill_profile(soft: &[i8], p: ProtectionParams, out: &mut [i8])
 
 // Depunctures a sub-channel's values into the front of `out`, as its description says: refusals 1 to 7, then 8.
 pub fn depuncture_msc(soft: &[i8], d: Description, out: &mut [i8]) -> Judged
-    ensures { λ r. ⌜ MscPromise d (now (soft .entry)) (now (out .entry)) (now (out .exit)) r ⌝ }
+    ensures { λ r. ⌜ DepuncturedMsc d (now (soft .entry)) (now (out .entry)) (now (out .exit)) r ⌝ }
 {
     let judged = protection::judge(d);
     match judged {
@@ -119,7 +119,7 @@ pub fn depuncture_msc(soft: &[i8], d: Description, out: &mut [i8]) -> Judged
 
 // Depunctures a block of the FIC into the front of `out`: refusal 8.
 pub fn depuncture_fic(soft: &[i8], out: &mut [i8]) -> Judged
-    ensures { λ r. ⌜ FicPromise (now (soft .entry)) (now (out .entry)) (now (out .exit)) r ⌝ }
+    ensures { λ r. ⌜ DepuncturedFic (now (soft .entry)) (now (out .entry)) (now (out .exit)) r ⌝ }
 {
     if out.len() < 3096 {
         return Judged::Refused(Refusal { number: 8 });

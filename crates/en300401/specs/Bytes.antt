@@ -1,4 +1,4 @@
--- Clause 4: the bits of a byte go high bit first.
+-- Document 01, "fic/handler.rs" and "msc/mod.rs": the bits of a byte go high bit first.
 use mathlib.Core.List.{List, [], _∷_, _++_}
 use Prim.Native.Nat.{ℕ}
 use Rattle.laws.specs.Bits.{numOf, bitsOf}

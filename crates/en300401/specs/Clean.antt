@@ -1,4 +1,4 @@
--- Document 01, "Sender's model" and "What the receiver owes": when a soft value speaks for the bit that was sent.
+-- Document 01, "From soft bits to bytes": when a soft value speaks for the bit that was sent.
 use Prim.Native.Nat.{ℕ, zero, suc}
 use lib.IntN.{ℤ, pos}
 use lib.Signed.{_<ℤ_}

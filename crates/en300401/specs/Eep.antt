@@ -15,7 +15,7 @@ unfoldable pub unit : ℕ → ℕ
 unit zero = 8
 unit (suc o) = 32
 
--- 1-A to 4-A, 1-B to 4-B; levels count from 0
+-- 1-A to 4-A, 1-B to 4-B; levels count from 0. The standard's row of its own for 2-A at n = 1 is left out, as document 01 and the Rust do: refusal 3 (docs/DIFFERENCES.md)
 unfoldable pub levelOf : ℕ → ℕ → Level
 levelOf zero zero = record { fold1 = 6; fold2 = 0; pi1 = 24; pi2 = 23 }
 levelOf zero (suc zero) = record { fold1 = 2; fold2 = 4; pi1 = 14; pi2 = 13 }

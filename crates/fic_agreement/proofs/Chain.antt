@@ -25,7 +25,7 @@ use Rattle.en300401.proofs.CleanWord.{length-word}
 use Rattle.en300401.proofs.Dispersal.{disperse-length, disperse-bits, disperse-twice}
 use Rattle.en300401.proofs.Puncturing.{length-puncture, fic-length, fic-kept}
 use Rattle.viterbi.proofs.Clean.{clean-decoded}
-use Rattle.fic_handler.specs.Blocks.{blockOf, received, dataBits, fibOf, good, passed, countOf, Block, IsBlock}
+use Rattle.fic_handler.specs.Blocks.{blockOf, depuncturedBlock, dataBits, fibOf, good, passedBytes, countOf, Block, IsBlock}
 use Rattle.fic_agreement.specs.Heard.{Heard}
 use Rattle.fic_agreement.specs.Sender.{Data, withCrc, fibsOf, message, blockSent}
 
@@ -102,8 +102,8 @@ module _ (f : Data) where
       ap (λ (t : Bool). cond t (bytesOfBits (fibOf (bitsOfBytes (fibsOf f)) j)) []) (good-at j h) ∙ ap bytesOfBits (fib-at j h)
       ∙ bytes-back (withCrc (f .fib j)) (with-bytes (f .fib j) (f .size j) (f .bytes j))
 
-  all-passed : passed (bitsOfBytes (fibsOf f)) 3 ≡ fibsOf f
-  unfolding passed fibsOf
+  all-passed : passedBytes (bitsOfBytes (fibsOf f)) 3 ≡ fibsOf f
+  unfolding passedBytes fibsOf
   all-passed =
       ap₂ (λ (a b : List ℕ). a ++ b) (ap₂ (λ (a b : List ℕ). a ++ b) (one-more 0 (omega arith)) (one-more 1 (omega arith))) (one-more 2 (omega arith))
       ∙ append-assoc (withCrc (f .fib 0)) (withCrc (f .fib 1)) (withCrc (f .fib 2))
@@ -125,7 +125,7 @@ module _ (f : Data) where
     value-at i l = getD-take 2304 (drop (2304 * b) xs) i (pos 0) l ∙ getD-drop (2304 * b) xs i (pos 0)
 
     decoded-is : take 768 (k .decoded) ≡ message f
-    unfolding blockSent received
+    unfolding blockSent depuncturedBlock
     decoded-is =
         ap (λ (n : ℕ). take n (k .decoded)) (sym message-long)
         ∙ clean-decoded ficProfile (blockOf xs b) message-bits (fic-length ∙ omega (arith, message-long))
@@ -136,8 +136,8 @@ module _ (f : Data) where
     unfolding dataBits message
     data-is = ap disperse decoded-is ∙ disperse-twice (bitsOfBytes (fibsOf f))
 
-    pub block-passed : passed (dataBits (k .decoded)) 3 ≡ fibsOf f
-    block-passed = ap (λ (bits : List ℕ). passed bits 3) data-is ∙ all-passed
+    pub block-passed : passedBytes (dataBits (k .decoded)) 3 ≡ fibsOf f
+    block-passed = ap (λ (bits : List ℕ). passedBytes bits 3) data-is ∙ all-passed
 
     pub block-counted : countOf (dataBits (k .decoded)) 3 ≡ 3
     block-counted = ap (λ (bits : List ℕ). countOf bits 3) data-is ∙ all-counted

@@ -12,11 +12,11 @@ use lib.Seq.{take-at, drop-at}
 use lib.IntN.{ℤ}
 use Rattle.refusal.specs.Outcome.{gives}
 use Rattle.fic_handler.specs.declared.Fic.{Fic}
-use Rattle.fic_handler.specs.Blocks.{joined, blocksIn, dataBits, passed, countOf, Block, IsBlock, Lent, written, total}
-use Rattle.fic_handler.specs.Promise.{refusalOf, answerOf, four, Processed, Outcomes, FicPromise}
+use Rattle.fic_handler.specs.Blocks.{joined, blocksIn, dataBits, passedBytes, countOf, Block, IsBlock, Lent, written, total}
+use Rattle.fic_handler.specs.Promise.{processRefusal, four, Processed, Outcomes, FicPromise}
 use Rattle.fic_handler.proofs.Run.{four-at, written-length}
 use Rattle.fic_handler.proofs.Refusals.{first-long, second-long, third-long}
-use Rattle.fic_agreement.specs.Heard.{Heard, passedBefore, ComeOut}
+use Rattle.fic_agreement.specs.Heard.{Heard, passedBefore, ComeOut, AllComeOut}
 use Rattle.fic_agreement.specs.Sender.{Data, fibsOf}
 use Rattle.fic_agreement.proofs.Chain.{fibs-length, block-passed, block-counted}
 
@@ -24,7 +24,7 @@ use Rattle.fic_agreement.proofs.Chain.{fibs-length, block-passed, block
 
 module _ (k : ℕ → Block) where
   abbrev bytesBy : ℕ → List ℕ
-  bytesBy b = passed (dataBits (k b .decoded)) 3
+  bytesBy b = passedBytes (dataBits (k b .decoded)) 3
 
   -- those of the blocks before it, its own, and others
   pub record Split (b n : ℕ) : Type 0 where
@@ -75,9 +75,9 @@ counted-all k (suc n) each = omega (arith, counted-all k n (λ b l. each b (omeg
 
 -- ---- what comes out
 
-module _ (s1 s2 s3 : List ℤ) (before : Lent) (accepted : refusalOf s1 s2 s3 before ≡ 0) where
+module _ (s1 s2 s3 : List ℤ) (before : Lent) (accepted : processRefusal s1 s2 s3 before ≡ 0) where
   -- a call that is not refused has four blocks at the most
-  short : (s : List ℤ) → (3072 < length s → refusalOf s1 s2 s3 before ≡ 11) → length s ≤ 3072
+  short : (s : List ℤ) → (3072 < length s → processRefusal s1 s2 s3 before ≡ 11) → length s ≤ 3072
   short s long = go (decLt 3072 (length s))
     where
       go : Dec (3072 < length s) → length s ≤ 3072
@@ -103,7 +103,7 @@ module _ (s1 s2 s3 : List ℤ) (before : Lent) (accepted : refusalOf s1 s2 s3 be
         let n : ℕ = blocksIn (joined s1 s2 s3) in
         let k : ℕ → Block = p .block in
         let l : b < 4 = omega (arith, h .whole, few) in
-        let its : passed (dataBits (k b .decoded)) 3 ≡ fibsOf f = block-passed f h (p .each b (h .whole)) in
+        let its : passedBytes (dataBits (k b .decoded)) 3 ≡ fibsOf f = block-passed f h (p .each b (h .whole)) in
         record {
           three = ap (λ (c : List ℕ). getD c b 0) (p .passed) ∙ count-at n b (λ (i : ℕ). countOf (dataBits (k i .decoded)) 3) (h .whole) l ∙ block-counted f h (p .each b (h .whole));
           bytes =
@@ -112,8 +112,25 @@ module _ (s1 s2 s3 : List ℤ) (before : Lent) (accepted : refusalOf s1 s2 s3 be
         }
 
     -- all blocks heard clean: three FIBs of each, in order
-    pub all-come-out : (fs : ℕ → Data) → ((b : ℕ) → b < blocksIn (joined s1 s2 s3) → Heard (fs b) (joined s1 s2 s3) b)
-        → answerOf (r .answer) ≡ gives (3 * blocksIn (joined s1 s2 s3))
+    pub all-come-out : (fs : ℕ → Data) → ((b : ℕ) → b < blocksIn (joined s1 s2 s3) → Heard (fs b) (joined s1 s2 s3) b) → AllComeOut fs (blocksIn (joined s1 s2 s3)) r after
     all-come-out fs h =
-        let p = processed in
-        p .answer ∙ ap gives (counted-all (p .block) (blocksIn (joined s1 s2 s3)) (λ b l. block-counted (fs b) (h b l) (p .each b l)))
+        record {
+          answer = processed .answer ∙ ap gives (counted-all k n three);
+          bytes = λ b l. ap (λ (m : ℕ). take 96 (drop m (after .fibs))) (sym (earlier b l)) ∙ fibs-come-out (h b l) .bytes;
+        }
+      where
+        n : ℕ
+        n = blocksIn (joined s1 s2 s3)
+
+        k : ℕ → Block
+        k = processed .block
+
+        three : (b : ℕ) → b < n → countOf (dataBits (k b .decoded)) 3 ≡ 3
+        three b l = block-counted (fs b) (h b l) (processed .each b l)
+
+        -- those of the blocks before it
+        earlier : (b : ℕ) → b < n → 32 * passedBefore (r .passed) b ≡ 96 * b
+        earlier b l =
+            let e : passedBefore (r .passed) b ≡ total k b = ap (λ (c : List ℕ). passedBefore c b) (processed .passed) ∙ before-is k n b (omega (arith, l)) (omega (arith, l, few)) in
+            let t : total k b ≡ 3 * b = counted-all k b (λ i j. three i (omega (arith, j, l))) in
+            omega (arith, e, t)

@@ -17,12 +17,12 @@ use Rattle.en300401.proofs.Dispersal.{disperse-length, disperse-bits}
 use Rattle.en300401.proofs.Puncturing.{length-depuncture, fic-length}
 use Rattle.refusal.specs.Outcome.{check, unlessRefused}
 use Rattle.protection.specs.declared.Judged.{Judged}
-use Rattle.depuncturing.specs.Promises.{FicPromise}
+use Rattle.depuncturing.specs.Promises.{DepuncturedFic}
 use Rattle.quality.specs.declared.Quality.{Quality}
 use Rattle.quality.specs.Figures.{qualityOf}
 use Rattle.viterbi.specs.Result.{Decodes, ChoiceWords}
 use Rattle.viterbi.proofs.Result.{decoded-length, decoded-bits}
-use Rattle.fic_handler.specs.Blocks.{dataBits, countOf, passed, KeptFibs, BlockDecoded, BlockProcessed, Lent, lent}
+use Rattle.fic_handler.specs.Blocks.{dataBits, countOf, passedBytes, KeptFibs, BlockDecoded, BlockProcessed, Lent}
 
 -- a block with the erasures put back
 abbrev pub restored : List ℤ → List ℤ
@@ -31,7 +31,7 @@ restored values = depuncture (mask ficProfile) values
 pub restored-length : (values : List ℤ) → length (restored values) ≡ 3096
 restored-length values = length-depuncture (mask ficProfile) values ∙ fic-length
 
-pub depunctured-is : (values before after : List ℤ) (r : Judged) → 3096 ≤ length before → FicPromise values before after r → after ≡ restored values ++ drop 3096 before
+pub depunctured-is : (values before after : List ℤ) (r : Judged) → 3096 ≤ length before → DepuncturedFic values before after r → after ≡ restored values ++ drop 3096 before
 depunctured-is values before after r h p = p .places ∙ ap (λ (t : Bool). unlessRefused (check 8 t) (restored values ++ drop 3096 before) before) (le-ltb (length before) 3096 h)
 
 pub front-is : (values before after : List ℤ) → after ≡ restored values ++ drop 3096 before → take 3096 after ≡ restored values
@@ -52,7 +52,7 @@ data-front {bits = bits} b =
     ∙ take-at (dataBits (b .block .decoded)) (drop 768 (b .block .decoded) ++ drop 774 bits) 768 (data-length (b .decodes))
 
 -- depuncturing, decoding and keeping the FIBs of a block, put together
-pub block-done : (values : List ℤ) (before after : Lent) (r : Judged) (q : Quality) (k : ℕ) → 3096 ≤ length (before .depunctured) → FicPromise values (before .depunctured) (after .depunctured) r
+pub block-done : (values : List ℤ) (before after : Lent) (r : Judged) (q : Quality) (k : ℕ) → 3096 ≤ length (before .depunctured) → DepuncturedFic values (before .depunctured) (after .depunctured) r
     → (b : BlockDecoded (take 3096 (after .depunctured)) (before .words) (before .bits) q (after .words) (after .bits)) → KeptFibs (take 768 (after .bits)) 3 (before .fibs) k (after .fibs) → BlockProcessed values before k q after
 block-done values before after r q k h p b f =
     let d = depunctured-is values (before .depunctured) (after .depunctured) r h p in
@@ -67,5 +67,5 @@ block-done values before after r q k h p b f =
       depunctured-are = d;
       words-are = b .words-are;
       bits-are = b .bits-are;
-      fibs-are = f .bytes ∙ ap (λ (xs : List ℕ). passed xs 3 ++ drop (32 * k) (before .fibs)) g;
+      fibs-are = f .bytes ∙ ap (λ (xs : List ℕ). passedBytes xs 3 ++ drop (32 * k) (before .fibs)) g;
     }

@@ -13,7 +13,7 @@ use Rattle.laws.proofs.Words.{bit-lt}
 use Rattle.en300401.specs.Bytes.{bytesOfBits}
 use Rattle.en300401.specs.Crc.{fibValid}
 use Rattle.en300401.proofs.Bytes.{bytes-length}
-use Rattle.fic_handler.specs.Blocks.{fibOf, good, passed, countOf, KeptFib, KeptFibs}
+use Rattle.fic_handler.specs.Blocks.{fibOf, good, passedBytes, countOf, KeptFib, KeptFibs}
 
 pub fib-length : (bits : List ℕ) (j : ℕ) → length bits ≡ 768 → j < 3 → length (fibOf bits j) ≡ 256
 fib-length bits j e h = simp (length-take, length-drop) (omega arith)
@@ -24,13 +24,13 @@ count-le bits zero = omega arith
 count-le bits (suc n) = omega (arith, count-le bits n, bit-lt (good bits n))
 
 -- 32 bytes for each FIB that passed
-pub passed-length : (bits : List ℕ) (n : ℕ) → length bits ≡ 768 → n ≤ 3 → length (passed bits n) ≡ 32 * countOf bits n
-unfolding passed countOf
+pub passed-length : (bits : List ℕ) (n : ℕ) → length bits ≡ 768 → n ≤ 3 → length (passedBytes bits n) ≡ 32 * countOf bits n
+unfolding passedBytes countOf
 passed-length bits zero e h = refl
 passed-length bits (suc n) e h =
-    length-append (passed bits n) (cond (good bits n) (bytesOfBits (fibOf bits n)) []) ∙ one (good bits n) (passed-length bits n e (omega arith))
+    length-append (passedBytes bits n) (cond (good bits n) (bytesOfBits (fibOf bits n)) []) ∙ one (good bits n) (passed-length bits n e (omega arith))
   where
-    one : (t : Bool) → length (passed bits n) ≡ 32 * countOf bits n → length (passed bits n) + length (cond t (bytesOfBits (fibOf bits n)) []) ≡ 32 * (countOf bits n + pickN t 1 0)
+    one : (t : Bool) → length (passedBytes bits n) ≡ 32 * countOf bits n → length (passedBytes bits n) + length (cond t (bytesOfBits (fibOf bits n)) []) ≡ 32 * (countOf bits n + pickN t 1 0)
     one true r = omega (arith, bytes-length (fibOf bits n), fib-length bits n e h)
     one false r = omega arith
 
@@ -39,21 +39,21 @@ kept-lt {bits} v = omega (arith, v .kept-is, bit-lt (fibValid bits))
 
 -- one FIB more: the part from byte 32 kept on has it at its start if it passed
 pub kept-next : {bits before after new : List ℕ} {j kept k : ℕ} → length bits ≡ 768 → j < 3 → KeptFibs bits j before kept after → KeptFib (fibOf bits j) (drop (32 * kept) after) k new → KeptFibs bits (j + 1) before (kept + k) (take (32 * kept) after ++ new)
-unfolding passed countOf
+unfolding passedBytes countOf
 kept-next {bits} {before} {after} {new} {j} {kept} {k} e h v w =
     record {
       kept-is = ap₂ (λ (a b : ℕ). a + b) (v .kept-is) (w .kept-is) ∙ ap (countOf bits) (sym (add-one j));
-      bytes = ap₂ (λ (a b : List ℕ). a ++ b) front (w .bytes ∙ ap (λ (r : List ℕ). cond (good bits j) (bytesOfBits (fibOf bits j) ++ drop 32 r) r) back) ∙ one (good bits j) (w .kept-is) ∙ ap (λ (n : ℕ). passed bits n ++ drop (32 * (kept + k)) before) (sym (add-one j));
+      bytes = ap₂ (λ (a b : List ℕ). a ++ b) front (w .bytes ∙ ap (λ (r : List ℕ). cond (good bits j) (bytesOfBits (fibOf bits j) ++ drop 32 r) r) back) ∙ one (good bits j) (w .kept-is) ∙ ap (λ (n : ℕ). passedBytes bits n ++ drop (32 * (kept + k)) before) (sym (add-one j));
     }
   where
-    long : length (passed bits j) ≡ 32 * kept
+    long : length (passedBytes bits j) ≡ 32 * kept
     long = passed-length bits j e (omega arith) ∙ ap (λ (n : ℕ). 32 * n) (sym (v .kept-is))
 
-    front : take (32 * kept) after ≡ passed bits j
-    front = ap (take (32 * kept)) (v .bytes) ∙ take-at (passed bits j) (drop (32 * kept) before) (32 * kept) long
+    front : take (32 * kept) after ≡ passedBytes bits j
+    front = ap (take (32 * kept)) (v .bytes) ∙ take-at (passedBytes bits j) (drop (32 * kept) before) (32 * kept) long
 
     back : drop (32 * kept) after ≡ drop (32 * kept) before
-    back = ap (drop (32 * kept)) (v .bytes) ∙ drop-at (passed bits j) (drop (32 * kept) before) (32 * kept) long
+    back = ap (drop (32 * kept)) (v .bytes) ∙ drop-at (passedBytes bits j) (drop (32 * kept) before) (32 * kept) long
 
     more : k ≡ 1 → 32 * kept + 32 ≡ 32 * (kept + k)
     more q = omega arith
@@ -61,6 +61,6 @@ kept-next {bits} {before} {after} {new} {j} {kept} {k} e h v w =
     none : k ≡ 0 → 32 * kept ≡ 32 * (kept + k)
     none q = omega arith
 
-    one : (t : Bool) → k ≡ pickN t 1 0 → passed bits j ++ cond t (bytesOfBits (fibOf bits j) ++ drop 32 (drop (32 * kept) before)) (drop (32 * kept) before) ≡ (passed bits j ++ cond t (bytesOfBits (fibOf bits j)) []) ++ drop (32 * (kept + k)) before
-    one true q = sym (append-assoc (passed bits j) (bytesOfBits (fibOf bits j)) (drop 32 (drop (32 * kept) before))) ∙ ap (λ (r : List ℕ). (passed bits j ++ bytesOfBits (fibOf bits j)) ++ r) (drop-drop 32 (32 * kept) before ∙ ap (λ (n : ℕ). drop n before) (more q))
-    one false q = ap₂ (λ (a b : List ℕ). a ++ b) (sym (append-nil (passed bits j))) (ap (λ (n : ℕ). drop n before) (none q))
+    one : (t : Bool) → k ≡ pickN t 1 0 → passedBytes bits j ++ cond t (bytesOfBits (fibOf bits j) ++ drop 32 (drop (32 * kept) before)) (drop (32 * kept) before) ≡ (passedBytes bits j ++ cond t (bytesOfBits (fibOf bits j)) []) ++ drop (32 * (kept + k)) before
+    one true q = sym (append-assoc (passedBytes bits j) (bytesOfBits (fibOf bits j)) (drop 32 (drop (32 * kept) before))) ∙ ap (λ (r : List ℕ). (passedBytes bits j ++ bytesOfBits (fibOf bits j)) ++ r) (drop-drop 32 (32 * kept) before ∙ ap (λ (n : ℕ). drop n before) (more q))
+    one false q = ap₂ (λ (a b : List ℕ). a ++ b) (sym (append-nil (passedBytes bits j))) (ap (λ (n : ℕ). drop n before) (none q))

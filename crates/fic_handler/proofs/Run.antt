@@ -18,7 +18,7 @@ use Rattle.laws.proofs.Lists.{length-listOf, listOf-at}
 use Rattle.quality.specs.declared.Quality.{Quality}
 use Rattle.quality.specs.Figures.{qualityOf, nothing}
 use Rattle.viterbi.proofs.Result.{decoded-length}
-use Rattle.fic_handler.specs.Blocks.{blockOf, received, dataBits, countOf, passed, Block, IsBlock, BlockProcessed, Lent, lent, written, total}
+use Rattle.fic_handler.specs.Blocks.{blockOf, depuncturedBlock, dataBits, countOf, passedBytes, Block, IsBlock, BlockProcessed, Lent, lent, written, total}
 use Rattle.fic_handler.specs.Promise.{four, workAfter}
 use Rattle.fic_handler.proofs.Fibs.{count-le, passed-length}
 use Rattle.fic_handler.proofs.Blocks.{restored-length, data-length}
@@ -73,14 +73,14 @@ total-ext k l (suc n) h = ap₂ (λ (a : ℕ) (b : Block). a + countOf (dataBits
 pub written-ext : (k l : ℕ → Block) (n : ℕ) → ((i : ℕ) → i < n → k i ≡ l i) → written k n ≡ written l n
 unfolding written
 written-ext k l zero h = refl
-written-ext k l (suc n) h = ap₂ (λ (a : List ℕ) (b : Block). a ++ passed (dataBits (b .decoded)) 3) (written-ext k l n (λ i g. h i (omega arith))) (h n (omega arith))
+written-ext k l (suc n) h = ap₂ (λ (a : List ℕ) (b : Block). a ++ passedBytes (dataBits (b .decoded)) 3) (written-ext k l n (λ i g. h i (omega arith))) (h n (omega arith))
 
 -- 32 bytes for each FIB that passed
 pub written-length : (k : ℕ → Block) {xs : List ℤ} (n : ℕ) → ((b : ℕ) → b < n → IsBlock xs b (k b)) → length (written k n) ≡ 32 * total k n
 unfolding written total
 written-length k zero each = refl
 written-length k (suc n) each =
-    length-append (written k n) (passed (dataBits (k n .decoded)) 3)
+    length-append (written k n) (passedBytes (dataBits (k n .decoded)) 3)
     ∙ omega (arith, written-length k n (λ b l. each b (omega arith)), passed-length (dataBits (k n .decoded)) 3 (data-length (each n (omega arith) .decodes)) (omega arith))
 
 -- what the run has done after n blocks
@@ -90,7 +90,7 @@ pub record Run (xs : List ℤ) (before : Lent) (n sum : ℕ) (counts : List ℕ)
   pub sum-is : sum ≡ total block n
   pub few : sum ≤ 3 * n
   pub counts-are : counts ≡ four n (λ (b : ℕ). countOf (dataBits (block b .decoded)) 3) 0
-  pub qualities-are : qualities ≡ four n (λ (b : ℕ). qualityOf (block b .metric) (received xs b)) nothing
+  pub qualities-are : qualities ≡ four n (λ (b : ℕ). qualityOf (block b .metric) (depuncturedBlock xs b)) nothing
   pub depunctured-are : after .depunctured ≡ workAfter xs block n before .depunctured
   pub words-are : after .words ≡ workAfter xs block n before .words
   pub bits-are : after .bits ≡ workAfter xs block n before .bits
@@ -114,9 +114,9 @@ run-none xs before counts qualities c q =
 
 -- what lies behind a block's own values, choices and bits is as it was before the first
 rest-depunctured : (xs : List ℤ) (k : ℕ → Block) (n : ℕ) (before : Lent) → drop 3096 (workAfter xs k n before .depunctured) ≡ drop 3096 (before .depunctured)
-unfolding workAfter received
+unfolding workAfter depuncturedBlock
 rest-depunctured xs k zero before = refl
-rest-depunctured xs k (suc n) before = drop-at (received xs n) (drop 3096 (before .depunctured)) 3096 (restored-length (blockOf xs n))
+rest-depunctured xs k (suc n) before = drop-at (depuncturedBlock xs n) (drop 3096 (before .depunctured)) 3096 (restored-length (blockOf xs n))
 
 rest-words : (xs : List ℤ) (k : ℕ → Block) (n : ℕ) (before : Lent) → ((b : ℕ) → b < n → IsBlock xs b (k b)) → drop 774 (workAfter xs k n before .words) ≡ drop 774 (before .words)
 unfolding workAfter
@@ -153,7 +153,7 @@ module _ (xs : List ℤ) (before : Lent) (n sum count : ℕ) (counts : List ℕ)
   earlier = with-other (r .block) n (p .block)
 
   this : IsBlock xs n (p .block)
-  unfolding received
+  unfolding depuncturedBlock
   this = record { decodes = p .decodes; chosen = p .chosen }
 
   every : (b : ℕ) → b < n + 1 → IsBlock xs b (blocks b)
@@ -170,9 +170,9 @@ module _ (xs : List ℤ) (before : Lent) (n sum count : ℕ) (counts : List ℕ)
   unfolding total
   sum-next = ap₂ (λ (a b : ℕ). a + b) (r .sum-is ∙ total-ext (r .block) blocks n earlier) count-is ∙ ap (total blocks) (sym (add-one n))
 
-  next-written : written blocks (n + 1) ≡ written (r .block) n ++ passed (dataBits (p .block .decoded)) 3
+  next-written : written blocks (n + 1) ≡ written (r .block) n ++ passedBytes (dataBits (p .block .decoded)) 3
   unfolding written
-  next-written = ap (written blocks) (add-one n) ∙ ap₂ (λ (a : List ℕ) (b : Block). a ++ passed (dataBits (b .decoded)) 3) (sym (written-ext (r .block) blocks n earlier)) last
+  next-written = ap (written blocks) (add-one n) ∙ ap₂ (λ (a : List ℕ) (b : Block). a ++ passedBytes (dataBits (b .decoded)) 3) (sym (written-ext (r .block) blocks n earlier)) last
 
   long : length (written (r .block) n) ≡ 32 * sum
   long = written-length (r .block) n (r .each) ∙ ap (λ (m : ℕ). 32 * m) (sym (r .sum-is))
@@ -188,12 +188,12 @@ module _ (xs : List ℤ) (before : Lent) (n sum count : ℕ) (counts : List ℕ)
 
   next-fibs : take (32 * sum) (after .fibs) ++ new .fibs ≡ written blocks (n + 1) ++ drop (32 * (sum + count)) (before .fibs)
   next-fibs =
-      ap₂ (λ (a b : List ℕ). a ++ b) front (p .fibs-are ∙ ap (λ (l : List ℕ). passed (dataBits (p .block .decoded)) 3 ++ drop (32 * count) l) back)
-      ∙ sym (append-assoc (written (r .block) n) (passed (dataBits (p .block .decoded)) 3) (drop (32 * count) (drop (32 * sum) (before .fibs))))
+      ap₂ (λ (a b : List ℕ). a ++ b) front (p .fibs-are ∙ ap (λ (l : List ℕ). passedBytes (dataBits (p .block .decoded)) 3 ++ drop (32 * count) l) back)
+      ∙ sym (append-assoc (written (r .block) n) (passedBytes (dataBits (p .block .decoded)) 3) (drop (32 * count) (drop (32 * sum) (before .fibs))))
       ∙ ap₂ (λ (a b : List ℕ). a ++ b) (sym next-written) (drop-drop (32 * count) (32 * sum) (before .fibs) ∙ ap (λ (m : ℕ). drop m (before .fibs)) at-end)
 
   pub run-next : Run xs before (n + 1) (sum + count) (set counts n count) (set qualities n q) (before-and after sum new)
-  unfolding workAfter received
+  unfolding workAfter depuncturedBlock
   run-next =
       record {
         block = blocks;
@@ -204,10 +204,10 @@ module _ (xs : List ℤ) (before : Lent) (n sum count : ℕ) (counts : List ℕ)
             four-next 0 n (λ (b : ℕ). countOf (dataBits (r .block b .decoded)) 3) (λ (b : ℕ). countOf (dataBits (blocks b .decoded)) 3) 0 count counts h (r .counts-are)
             (λ i l. ap (λ (k : Block). countOf (dataBits (k .decoded)) 3) (earlier i l)) count-is;
         qualities-are =
-            four-next nothing n (λ (b : ℕ). qualityOf (r .block b .metric) (received xs b)) (λ (b : ℕ). qualityOf (blocks b .metric) (received xs b)) nothing q qualities h (r .qualities-are)
-            (λ i l. ap (λ (k : Block). qualityOf (k .metric) (received xs i)) (earlier i l)) (p .quality-is ∙ ap (λ (k : Block). qualityOf (k .metric) (received xs n)) (sym last));
+            four-next nothing n (λ (b : ℕ). qualityOf (r .block b .metric) (depuncturedBlock xs b)) (λ (b : ℕ). qualityOf (blocks b .metric) (depuncturedBlock xs b)) nothing q qualities h (r .qualities-are)
+            (λ i l. ap (λ (k : Block). qualityOf (k .metric) (depuncturedBlock xs i)) (earlier i l)) (p .quality-is ∙ ap (λ (k : Block). qualityOf (k .metric) (depuncturedBlock xs n)) (sym last));
         depunctured-are =
-            p .depunctured-are ∙ ap (λ (l : List ℤ). received xs n ++ l) (ap (drop 3096) (r .depunctured-are) ∙ rest-depunctured xs (r .block) n before)
+            p .depunctured-are ∙ ap (λ (l : List ℤ). depuncturedBlock xs n ++ l) (ap (drop 3096) (r .depunctured-are) ∙ rest-depunctured xs (r .block) n before)
             ∙ ap (λ (m : ℕ). workAfter xs blocks m before .depunctured) (sym (add-one n));
         words-are =
             p .words-are ∙ ap₂ (λ (k : Block) (l : List ℕ). k .choices ++ l) (sym last) (ap (drop 774) (r .words-are) ∙ rest-words xs (r .block) n before (r .each))

@@ -16,8 +16,8 @@ use Rattle.viterbi.proofs.Result.{bits-one, metric-one, words-one}
 use Rattle.fic_handler.specs.declared.Fic.{Fic}
 use Rattle.fic_handler.specs.declared.FicAnswer.{FicAnswer}
 use Rattle.fic_handler.specs.declared.FicAnswer.the-variants.{Fibs, Refused}
-use Rattle.fic_handler.specs.Blocks.{joined, received, dataBits, countOf, Block, IsBlock, Lent, lent, total}
-use Rattle.fic_handler.specs.Promise.{answerOf, four, workAfter, refusalOf, Processed, Outcomes, FicPromise}
+use Rattle.fic_handler.specs.Blocks.{joined, depuncturedBlock, dataBits, countOf, Block, IsBlock, Lent, lent, total}
+use Rattle.fic_handler.specs.Promise.{answerOf, four, workAfter, processRefusal, Processed, Outcomes, FicPromise}
 use Rattle.fic_handler.proofs.Run.{total-ext, written-ext}
 
 -- an answer is one by what it says
@@ -51,7 +51,7 @@ unfolding workAfter
 work-ext xs k l zero before h = refl
 work-ext xs k l (suc n) before h =
     ap
-    (λ (x : Block). lent (received xs n ++ drop 3096 (before .depunctured)) (x .choices ++ drop 774 (before .words)) ((dataBits (x .decoded) ++ drop 768 (x .decoded)) ++ drop 774 (before .bits)) (before .fibs))
+    (λ (x : Block). lent (depuncturedBlock xs n ++ drop 3096 (before .depunctured)) (x .choices ++ drop 774 (before .words)) ((dataBits (x .decoded) ++ drop 768 (x .decoded)) ++ drop 774 (before .bits)) (before .fibs))
     (h n (omega arith))
 
 pub record SameFic (r : Fic) (after : Lent) (s : Fic) (also : Lent) : Type 0 where
@@ -64,7 +64,7 @@ processed-one {xs} {n} {before} {r} {s} {after} {also} f g =
       answer-is =
           fic-one r s (answer-one (r .answer) (s .answer) (f .answer ∙ ap gives sums ∙ sym (g .answer)))
           (f .passed ∙ four-ext n _ _ 0 (λ b h. ap (λ (k : Block). countOf (dataBits (k .decoded)) 3) (blocks b h)) ∙ sym (g .passed))
-          (f .quality ∙ four-ext n _ _ nothing (λ b h. ap (λ (k : Block). qualityOf (k .metric) (received xs b)) (blocks b h)) ∙ sym (g .quality));
+          (f .quality ∙ four-ext n _ _ nothing (λ b h. ap (λ (k : Block). qualityOf (k .metric) (depuncturedBlock xs b)) (blocks b h)) ∙ sym (g .quality));
       lent-is =
           λ i. lent ((f .depunctured ∙ ap (λ (l : Lent). l .depunctured) works ∙ sym (g .depunctured)) i) ((f .words ∙ ap (λ (l : Lent). l .words) works ∙ sym (g .words)) i)
           ((f .bits ∙ ap (λ (l : Lent). l .bits) works ∙ sym (g .bits)) i)
@@ -91,4 +91,4 @@ outcomes-one (suc k) xs before r s after also f g =
 
 -- for every input the promise allows one result
 pub fic-unique : (s1 s2 s3 : List ℤ) (before : Lent) (r s : Fic) (after also : Lent) → FicPromise s1 s2 s3 before r after → FicPromise s1 s2 s3 before s also → SameFic r after s also
-fic-unique s1 s2 s3 before r s after also f g = outcomes-one (refusalOf s1 s2 s3 before) (joined s1 s2 s3) before r s after also (f .outcome) (g .outcome)
+fic-unique s1 s2 s3 before r s after also f g = outcomes-one (processRefusal s1 s2 s3 before) (joined s1 s2 s3) before r s after also (f .outcome) (g .outcome)

@@ -27,8 +27,8 @@ blocksIn xs = length xs / 2304
 abbrev pub blockOf : List ℤ → ℕ → List ℤ
 blockOf xs b = take 2304 (drop (2304 * b) xs)
 
-unfoldable pub received : List ℤ → ℕ → List ℤ
-received xs b = depuncture (mask ficProfile) (blockOf xs b)
+unfoldable pub depuncturedBlock : List ℤ → ℕ → List ℤ
+depuncturedBlock xs b = depuncture (mask ficProfile) (blockOf xs b)
 
 -- the first 768 decoded bits, dispersed afresh
 unfoldable pub dataBits : List ℕ → List ℕ
@@ -42,9 +42,9 @@ abbrev pub good : List ℕ → ℕ → Bool
 good bits j = fibValid (fibOf bits j)
 
 -- the passed FIBs of the first n of a block, in order, as bytes; and how many
-unfoldable pub passed : List ℕ → ℕ → List ℕ
-passed bits zero = []
-passed bits (suc n) = passed bits n ++ cond (good bits n) (bytesOfBits (fibOf bits n)) []
+unfoldable pub passedBytes : List ℕ → ℕ → List ℕ
+passedBytes bits zero = []
+passedBytes bits (suc n) = passedBytes bits n ++ cond (good bits n) (bytesOfBits (fibOf bits n)) []
 
 unfoldable pub countOf : List ℕ → ℕ → ℕ
 countOf bits zero = 0
@@ -58,7 +58,7 @@ pub record KeptFib (bits before : List ℕ) (kept : ℕ) (after : List ℕ) : Ty
 -- of the first n FIBs the passed ones stand at the start of the output, and the rest of it is as it was
 pub record KeptFibs (bits : List ℕ) (n : ℕ) (before : List ℕ) (kept : ℕ) (after : List ℕ) : Type 0 where
   pub kept-is : kept ≡ countOf bits n
-  pub bytes : after ≡ passed bits n ++ drop (32 * kept) before
+  pub bytes : after ≡ passedBytes bits n ++ drop (32 * kept) before
 
 -- what decoding a block gives
 pub record Block : Type 0 where
@@ -67,13 +67,13 @@ pub record Block : Type 0 where
   pub metric : ℤ
 
 pub record IsBlock (xs : List ℤ) (b : ℕ) (k : Block) : Type 0 where
-  pub decodes : Decodes zeroEnd (received xs b) 774 (k .decoded) (k .metric)
-  pub chosen : ChoiceWords (received xs b) 774 (k .choices)
+  pub decodes : Decodes zeroEnd (depuncturedBlock xs b) 774 (k .decoded) (k .metric)
+  pub chosen : ChoiceWords (depuncturedBlock xs b) 774 (k .choices)
 
 -- the bytes of all passed FIBs of the first n blocks, and how many FIBs
 unfoldable pub written : (ℕ → Block) → ℕ → List ℕ
 written k zero = []
-written k (suc n) = written k n ++ passed (dataBits (k n .decoded)) 3
+written k (suc n) = written k n ++ passedBytes (dataBits (k n .decoded)) 3
 
 unfoldable pub total : (ℕ → Block) → ℕ → ℕ
 total k zero = 0
@@ -116,4 +116,4 @@ pub record BlockProcessed (values : List ℤ) (before : Lent) (count : ℕ) (q :
   pub depunctured-are : after .depunctured ≡ depuncture (mask ficProfile) values ++ drop 3096 (before .depunctured)
   pub words-are : after .words ≡ block .choices ++ drop 774 (before .words)
   pub bits-are : after .bits ≡ (dataBits (block .decoded) ++ drop 768 (block .decoded)) ++ drop 774 (before .bits)
-  pub fibs-are : after .fibs ≡ passed (dataBits (block .decoded)) 3 ++ drop (32 * count) (before .fibs)
+  pub fibs-are : after .fibs ≡ passedBytes (dataBits (block .decoded)) 3 ++ drop (32 * count) (before .fibs)

@@ -12,7 +12,7 @@ use Rattle.quality.specs.Figures.{qualityOf, nothing}
 use Rattle.fic_handler.specs.declared.FicAnswer.{FicAnswer}
 use Rattle.fic_handler.specs.declared.FicAnswer.the-variants.{Fibs, Refused}
 use Rattle.fic_handler.specs.declared.Fic.{Fic}
-use Rattle.fic_handler.specs.Blocks.{joined, blocksIn, received, dataBits, countOf, Block, IsBlock, Lent, written, total}
+use Rattle.fic_handler.specs.Blocks.{joined, blocksIn, depuncturedBlock, dataBits, countOf, Block, IsBlock, Lent, written, total}
 
 -- 11: a symbol over 3,072 values
 unfoldable pub tooLong : List ℤ → ℕ
@@ -24,8 +24,8 @@ noRoom blocks l =
     check 8 (ltb (length (l .depunctured)) 3096) ∷ check 8 (ltb (length (l .words)) 774) ∷ check 8 (ltb (length (l .bits)) 774) ∷ check 8 (ltb (length (l .fibs)) (96 * blocks)) ∷ []
 
 -- the first refusal of a call, 11 before 8; 0 for none
-unfoldable pub refusalOf : List ℤ → List ℤ → List ℤ → Lent → ℕ
-refusalOf s1 s2 s3 l = firstOf (tooLong s1 ∷ tooLong s2 ∷ tooLong s3 ∷ noRoom (blocksIn (joined s1 s2 s3)) l)
+unfoldable pub processRefusal : List ℤ → List ℤ → List ℤ → Lent → ℕ
+processRefusal s1 s2 s3 l = firstOf (tooLong s1 ∷ tooLong s2 ∷ tooLong s3 ∷ noRoom (blocksIn (joined s1 s2 s3)) l)
 
 -- how many FIBs, or the number
 abbrev pub answerOf : FicAnswer → Outcome ℕ
@@ -42,7 +42,7 @@ unfoldable pub workAfter : List ℤ → (ℕ → Block) → ℕ → Lent → Len
 workAfter xs k zero l = l
 workAfter xs k (suc n) l =
     record {
-      depunctured = received xs n ++ drop 3096 (l .depunctured);
+      depunctured = depuncturedBlock xs n ++ drop 3096 (l .depunctured);
       words = k n .choices ++ drop 774 (l .words);
       bits = (dataBits (k n .decoded) ++ drop 768 (k n .decoded)) ++ drop 774 (l .bits);
       fibs = l .fibs;
@@ -54,7 +54,7 @@ pub record Processed (xs : List ℤ) (n : ℕ) (before : Lent) (r : Fic) (after 
   pub each : (b : ℕ) → b < n → IsBlock xs b (block b)
   pub answer : answerOf (r .answer) ≡ gives (total block n)
   pub passed : r .passed ≡ four n (λ (b : ℕ). countOf (dataBits (block b .decoded)) 3) 0
-  pub quality : r .quality ≡ four n (λ (b : ℕ). qualityOf (block b .metric) (received xs b)) nothing
+  pub quality : r .quality ≡ four n (λ (b : ℕ). qualityOf (block b .metric) (depuncturedBlock xs b)) nothing
   pub depunctured : after .depunctured ≡ workAfter xs block n before .depunctured
   pub words : after .words ≡ workAfter xs block n before .words
   pub bits : after .bits ≡ workAfter xs block n before .bits
@@ -82,4 +82,4 @@ Outcomes (suc number) xs before r after = Away (suc number) r × (after ≡ befo
 
 -- the promise of `process_fic`
 pub record FicPromise (s1 s2 s3 : List ℤ) (before : Lent) (r : Fic) (after : Lent) : Type 0 where
-  pub outcome : Outcomes (refusalOf s1 s2 s3 before) (joined s1 s2 s3) before r after
+  pub outcome : Outcomes (processRefusal s1 s2 s3 before) (joined s1 s2 s3) before r after

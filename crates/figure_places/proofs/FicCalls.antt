@@ -19,7 +19,7 @@ use Rattle.fic_handler.specs.declared.Fic.{Fic}
 use Rattle.fic_handler.specs.declared.FicAnswer.{FicAnswer}
 use Rattle.fic_handler.specs.declared.FicAnswer.the-variants.{Fibs, Refused}
 use Rattle.fic_handler.specs.Blocks.{joined, blocksIn, Lent}
-use Rattle.fic_handler.specs.Promise.{tooLong, noRoom, refusalOf, answerOf, four, Outcomes, FicPromise}
+use Rattle.fic_handler.specs.Promise.{tooLong, noRoom, processRefusal, answerOf, Outcomes, FicPromise}
 use Rattle.figure_places.specs.Code.{fewOf, noFigures, firstFour, PutQuality, countsPut, pastEnd, PutAll, EnoughFigures, FiguresPut, FicTold}
 use Rattle.figure_places.specs.Fic.{Figures, fewFigures, ficNumber, fibsIn, metricsOf, percentsOf, FicCall}
 
@@ -86,9 +86,9 @@ no-figures-positive a b c = go (ltb 3072 (length a)) (ltb 3072 (length b)) (ltb 
     go false false false = omega arith
 
 no-figures-number : (a b c : List ℤ) (l : Lent) (f : Figures) → fewFigures f ≡ 8 → noFigures a b c ≡ ficNumber a b c l f
-unfolding ficNumber refusalOf tooLong noRoom
+unfolding ficNumber processRefusal tooLong noRoom
 no-figures-number a b c l f e =
-    subst (λ (m : ℕ). noFigures a b c ≡ orElse (refusalOf a b c l) m) (sym e)
+    subst (λ (m : ℕ). noFigures a b c ≡ orElse (processRefusal a b c l) m) (sym e)
     (go (ltb 3072 (length a)) (ltb 3072 (length b)) (ltb 3072 (length c)) (ltb (length (l .depunctured)) 3096) (ltb (length (l .words)) 774) (ltb (length (l .bits)) 774) (ltb (length (l .fibs)) (96 * blocksIn (joined a b c))))
   where
     go : (x y z s t u v : Bool) → orElse (firstOf (check 11 x ∷ check 11 y ∷ check 11 z ∷ [])) 8 ≡ orElse (firstOf (check 11 x ∷ check 11 y ∷ check 11 z ∷ check 8 s ∷ check 8 t ∷ check 8 u ∷ check 8 v ∷ [])) 8
@@ -183,7 +183,7 @@ same-number : (k t : ℕ) → _≡_ {A = Outcome ℕ} (refuses k) (refuses t) �
 same-number k t e = cc
 
 module _ {a b c : List ℤ} {l : Lent} (r : Fic) {after : Lent} (f : Figures) (enough : fewFigures f ≡ 0) where
-  refused-by : (x : Refusal) → r .answer ≡ Refused x → (n : ℕ) → refusalOf a b c l ≡ n → Outcomes n (joined a b c) l r after → FicCall a b c l f (x .number) after f
+  refused-by : (x : Refusal) → r .answer ≡ Refused x → (n : ℕ) → processRefusal a b c l ≡ n → Outcomes n (joined a b c) l r after → FicCall a b c l f (x .number) after f
   unfolding Outcomes ficNumber
   refused-by x q zero e o = not-both (x .number) _ (sym (ap answerOf q) ∙ o .answer)
   refused-by x q (suc n) e o =
@@ -198,7 +198,7 @@ module _ {a b c : List ℤ} {l : Lent} (r : Fic) {after : Lent} (f : Figures) (e
       (n : ℕ) → r .answer ≡ Fibs n → (f' : Figures) → f' .counts ≡ countsPut n (r .passed) (f .counts)
       → PutAll (r .quality) (f .metrics) (f .percents) (f' .metrics) (f' .percents)
       → FicPromise a b c l r after
-      → (m : ℕ) → refusalOf a b c l ≡ m → Outcomes m (joined a b c) l r after → FicCall a b c l f 0 after f'
+      → (m : ℕ) → processRefusal a b c l ≡ m → Outcomes m (joined a b c) l r after → FicCall a b c l f 0 after f'
   unfolding Outcomes ficNumber
   done-by n q f' counts rest p (suc m) e o = not-both (suc m) n (sym (o .0 .answer) ∙ ap answerOf q)
   done-by n q f' counts rest p zero e o =
@@ -219,10 +219,10 @@ module _ {a b c : List ℤ} {l : Lent} (r : Fic) {after : Lent} (f : Figures) (e
   unfolding FicTold
   answered (Refused x) q k f' p t =
       subst (λ (g : Figures). FicCall a b c l f k after g) (sym (t .1))
-      (subst (λ (m : ℕ). FicCall a b c l f m after f) (sym (t .0)) (refused-by x q (refusalOf a b c l) refl (p .outcome)))
+      (subst (λ (m : ℕ). FicCall a b c l f m after f) (sym (t .0)) (refused-by x q (processRefusal a b c l) refl (p .outcome)))
   answered (Fibs n) q k f' p t =
       subst (λ (m : ℕ). FicCall a b c l f m after f') (sym (t .0))
-      (done-by n q f' (t .1 .counts-are) (t .1 .records) p (refusalOf a b c l) refl (p .outcome))
+      (done-by n q f' (t .1 .counts-are) (t .1 .records) p (processRefusal a b c l) refl (p .outcome))
 
   pub fic-told : FicPromise a b c l r after → (k : ℕ) (f' : Figures) → FicTold (r .answer) r f f' k → FicCall a b c l f k after f'
   fic-told p k f' t = answered (r .answer) refl k f' p t

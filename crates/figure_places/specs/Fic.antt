@@ -1,4 +1,4 @@
--- Document 01, "fic/handler.rs" and its refusals: what FIC handling returns and writes, its figures into places of their own.
+-- docs/DECISIONS.md, "For C": what document 01's FIC handling returns and writes, its figures into places of their own, and 8 for those.
 use mathlib.Core.Path.{_≡_}
 use mathlib.Core.List.{List, [], _∷_, _++_, map}
 use Prim.Native.Nat.{ℕ, _<_}
@@ -11,7 +11,7 @@ use Rattle.fic_handler.specs.declared.Fic.{Fic}
 use Rattle.fic_handler.specs.declared.FicAnswer.{FicAnswer}
 use Rattle.fic_handler.specs.declared.FicAnswer.the-variants.{Fibs, Refused}
 use Rattle.fic_handler.specs.Blocks.{Lent}
-use Rattle.fic_handler.specs.Promise.{refusalOf, FicPromise}
+use Rattle.fic_handler.specs.Promise.{processRefusal, FicPromise}
 use Rattle.places.specs.Places.{short}
 
 -- the places of the figures
@@ -29,7 +29,7 @@ fewFigures f = firstOf (short 5 (length (f .counts)) ∷ short 8 (length (f .met
 
 -- 11, then 8; 0 for none
 unfoldable pub ficNumber : List ℤ → List ℤ → List ℤ → Lent → Figures → ℕ
-ficNumber s1 s2 s3 l f = orElse (refusalOf s1 s2 s3 l) (fewFigures f)
+ficNumber s1 s2 s3 l f = orElse (processRefusal s1 s2 s3 l) (fewFigures f)
 
 -- how many FIBs
 abbrev pub fibsIn : FicAnswer → ℕ

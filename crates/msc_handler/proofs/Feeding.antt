@@ -20,9 +20,9 @@ use Rattle.msc_state.specs.declared.Channel.{Channel}
 use Rattle.msc_handler.specs.declared.Fed.{Fed}
 use Rattle.msc_state.specs.declared.State.{State}
 use Rattle.msc_handler.specs.Frames.{Framed}
-use Rattle.msc_handler.specs.Promises.{Said, waiting, framed, saidOf, Buffers, buffers, refusalIn, Turn, refuses, gathers, completes, turnAt, turnOf, stretchOf, delayed, gathered, rotated, softOf, Completed, CifPromise, Feeds, FeedPromise}
+use Rattle.msc_handler.specs.Promises.{Said, waiting, framed, saidOf, Buffers, buffers, refusalIn, Turn, refuses, gathers, completes, turnAt, turnOf, stretchOf, delayed, gathered, rotated, depuncturedOf, Completed, CifPromise, Feeds, FeedPromise}
 use Rattle.msc_handler.specs.Ring.{stored, readOut, refilled}
-use Rattle.msc_state.specs.States.{valuesOf, whole, due, nextState}
+use Rattle.msc_state.specs.States.{valuesOf, whole, due, stateAfter}
 use Rattle.msc_handler.proofs.Frames.{framed-unique}
 
 pub delayed-length : (c : Channel) (ring : List ℤ) → length (delayed c ring) ≡ valuesOf (c .description)
@@ -53,8 +53,8 @@ module _ (c : Channel) (b : Buffers) where
         → CifPromise c b (framed (3 * c .description .bitrate) p) (buffers (b .cif) ring' read' dep' words' bits' frame')
     unfolding Completed
     cif-frames {dep'} {words'} {bits'} {frame'} {p} h d f =
-        let same : values ≡ softOf c (b .ring) = ap (depuncture (mask (profileOf (c .description)))) values-are in
-        let dep-is : dep' ≡ softOf c (b .ring) ++ drop (roomOf (c .description)) (b .depunctured) = d ∙ ap (λ (v : List ℤ). v ++ drop (roomOf (c .description)) (b .depunctured)) same in
+        let same : values ≡ depuncturedOf c (b .ring) = ap (depuncture (mask (profileOf (c .description)))) values-are in
+        let dep-is : dep' ≡ depuncturedOf c (b .ring) ++ drop (roomOf (c .description)) (b .depunctured) = d ∙ ap (λ (v : List ℤ). v ++ drop (roomOf (c .description)) (b .depunctured)) same in
         subst (λ (e : Bool). Completed e c b (framed (3 * c .description .bitrate) p) (buffers (b .cif) ring' read' dep' words' bits' frame')) (sym (le-leb 16 (c .«cif_count») h))
         (record {
           percent = p;
@@ -87,7 +87,7 @@ module _ (s : State) (soft : List ℤ) (b : Buffers) where
   unfolding Feeds
   feed-refused e h = by-turn (refused-turn e h) (refl, refl, refl)
 
-  module _ (none : refusalIn s soft b ≡ 0) {s' : State} (moved : s' ≡ nextState s) {cif' : List ℤ} (kept : cif' ≡ stored (b .cif) (s .symbols) soft) where
+  module _ (none : refusalIn s soft b ≡ 0) {s' : State} (moved : s' ≡ stateAfter s) {cif' : List ℤ} (kept : cif' ≡ stored (b .cif) (s .symbols) soft) where
     pub feed-gathers : s .symbols < 17 → FeedPromise s soft b (record { state = s'; answer = Waiting }) (buffers cif' (b .ring) (b .deinterleaved) (b .depunctured) (b .words) (b .bits) (b .frame))
     unfolding Feeds
     feed-gathers h = by-turn (accepted-turn none (lt-leb 17 (s .symbols) h)) (moved, refl, λ i. buffers (kept i) (b .ring) (b .deinterleaved) (b .depunctured) (b .words) (b .bits) (b .frame))
@@ -102,12 +102,12 @@ module _ (s : State) (soft : List ℤ) (b : Buffers) where
 
 -- and back: what each turn leaves of the state, the CIF store, the ring and what was read
 pub record Gathered (s : State) (soft : List ℤ) (b : Buffers) (s' : State) (b' : Buffers) : Type 0 where
-  pub moved : s' ≡ nextState s
+  pub moved : s' ≡ stateAfter s
   pub kept : b' .cif ≡ stored (b .cif) (s .symbols) soft
   pub ring-same : b' .ring ≡ b .ring
 
 pub record Finished (s : State) (soft : List ℤ) (b : Buffers) (s' : State) (b' : Buffers) : Type 0 where
-  pub moved : s' ≡ nextState s
+  pub moved : s' ≡ stateAfter s
   pub kept : b' .cif ≡ stored (b .cif) (s .symbols) soft
   pub ring-is : b' .ring ≡ rotated (s .channel) (gathered s soft b) .ring
   pub read-is : b' .deinterleaved ≡ rotated (s .channel) (gathered s soft b) .deinterleaved
@@ -173,7 +173,7 @@ unfolding Completed
 completed-unique false c b x y = record { said-one = x .0 ∙ sym (y .0); left-one = x .1 ∙ sym (y .1) }
 completed-unique true c b x y =
     let u = framed-unique (x .framing) (y .framing) in
-    let rest : List ℤ = softOf c (b .ring) ++ drop (roomOf (c .description)) (b .depunctured) in
+    let rest : List ℤ = depuncturedOf c (b .ring) ++ drop (roomOf (c .description)) (b .depunctured) in
     record {
       said-one = x .answer ∙ ap (framed (3 * c .description .bitrate)) (u .percent-one) ∙ sym (y .answer);
       left-one = x .lent ∙ (λ i. buffers (rotated c b .cif) (rotated c b .ring) (rotated c b .deinterleaved) rest (u .words-one i) (u .bits-one i) (u .frame-one i)) ∙ sym (y .lent);

@@ -27,7 +27,7 @@ use Rattle.msc_handler.specs.History.{symbolOf, Since, begun, restarted,
 use Rattle.msc_handler.specs.Promises.{Buffers, refusalIn, FeedPromise, stretchOf, delayed}
 use Rattle.msc_set_up.specs.Promises.{cleared, Prepared}
 use Rattle.msc_handler.specs.Ring.{stored, part, inSlot, slotOf, readOut, refilled}
-use Rattle.msc_state.specs.States.{valuesOf, ringRoom, startedAt, freshState, mostFrames, nextChannel, nextState}
+use Rattle.msc_state.specs.States.{valuesOf, ringRoom, startedAt, freshState, mostFrames, channelAfter, stateAfter}
 use Rattle.msc_handler.proofs.Feeding.{fed-refuses, fed-gathers, fed-completes, delayed-length}
 use Rattle.msc_state.proofs.Refusals.{Accepted, accepted, set-up-room, reset-room}
 use Rattle.laws.proofs.Pasted.{pasted-inside, pasted-else}
@@ -91,7 +91,7 @@ prepared-holds {n} {d} {other} {ring} {r} {ring'} cif e room p =
     subst (λ (t : State). Holds d [] t cif ring') (sym s) (subst (λ (t : List ℤ). Holds d [] (freshState d) cif t) (sym q) (fresh-holds d ring room cif))
 
 -- counts after one symbol more
-middle-counts : (d : Description) (n : ℕ) (s : State) → s .symbols < 17 → Counts d n s → Counts d (n + 1) (nextState s)
+middle-counts : (d : Description) (n : ℕ) (s : State) → s .symbols < 17 → Counts d n s → Counts d (n + 1) (stateAfter s)
 middle-counts d n s h c =
     let e : s .symbols ≡ n % 18 = c .symbols in
     let w : (n + 1) / 18 ≡ n / 18 = omega arith in
@@ -114,8 +114,8 @@ frames-next w count frames e f = go (decLt count 16)
     go (yes y) = ap (λ (b : Bool). cond b (min mostFrames (frames + 1)) frames) (lt-leb 16 count y) ∙ omega arith
     go (no n) = ap (λ (b : Bool). cond b (min mostFrames (frames + 1)) frames) (le-leb 16 count (omega arith)) ∙ omega arith
 
-whole-counts : (d : Description) (n : ℕ) (s : State) → s .symbols ≡ 17 → Counts d n s → Counts d (n + 1) (nextState s)
-unfolding nextChannel
+whole-counts : (d : Description) (n : ℕ) (s : State) → s .symbols ≡ 17 → Counts d n s → Counts d (n + 1) (stateAfter s)
+unfolding channelAfter
 whole-counts d n s h c =
     let e : n % 18 ≡ 17 = omega (arith, c .symbols) in
     let w : (n + 1) / 18 ≡ n / 18 + 1 = omega arith in
@@ -200,7 +200,7 @@ module _ (d : Description) (h : List (List ℤ)) (s : State) (b : Buffers) (soft
       let same : wholeCifs (length next) ≡ w = omega (arith, more-length h (symbolOf soft)) in
       let one : length next % 18 ≡ s .symbols + 1 = omega (arith, more-length h (symbolOf soft)) in
       record {
-        counts = subst (Counts d (length next)) (sym (g .moved)) (subst (λ (n : ℕ). Counts d n (nextState s)) (sym (more-length h (symbolOf soft))) (middle-counts d (length h) s lt (v .counts)));
+        counts = subst (Counts d (length next)) (sym (g .moved)) (subst (λ (n : ℕ). Counts d n (stateAfter s)) (sym (more-length h (symbolOf soft))) (middle-counts d (length h) s lt (v .counts)));
         stored = λ q l. ap (λ (c : List ℤ). at c q) (g .kept) ∙ store-next q (omega arith) ∙ ap (λ (c : ℕ). cifValue next c q) (sym same);
         slots = λ j i k l.
             (λ t. inSlot (g .ring-same t) (valuesOf d) ((same t + j) % 16) i) ∙ v .slots j i k l
@@ -270,7 +270,7 @@ module _ (d : Description) (h : List (List ℤ)) (s : State) (b : Buffers) (soft
         let more : wholeCifs (length next) ≡ w + 1 = omega (arith, more-length h (symbolOf soft)) in
         let none-yet : length next % 18 ≡ 0 = omega (arith, more-length h (symbolOf soft)) in
         record {
-          counts = subst (Counts d (length next)) (sym (f .moved)) (subst (λ (n : ℕ). Counts d n (nextState s)) (sym (more-length h (symbolOf soft))) (whole-counts d (length h) s full (v .counts)));
+          counts = subst (Counts d (length next)) (sym (f .moved)) (subst (λ (n : ℕ). Counts d n (stateAfter s)) (sym (more-length h (symbolOf soft))) (whole-counts d (length h) s full (v .counts)));
           stored = λ q l. absurd (omega arith);
           slots = λ j i k l.
               (λ t. inSlot (ring-next t) (valuesOf d) ((more t + j) % 16) i) ∙ slots-next j i k l ∙ ap (λ (c : ℕ). heldValue d next c j i) (sym more);

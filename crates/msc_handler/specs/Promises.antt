@@ -17,7 +17,7 @@ use Rattle.msc_handler.specs.declared.Fed.{Fed}
 use Rattle.msc_state.specs.declared.State.{State}
 use Rattle.msc_handler.specs.Frames.{Framed}
 use Rattle.msc_handler.specs.Ring.{stored, part, readOut, refilled}
-use Rattle.msc_state.specs.States.{valuesOf, feedRefusal, whole, due, nextState}
+use Rattle.msc_state.specs.States.{valuesOf, feedRefusal, whole, due, stateAfter}
 
 -- what an answer says: waiting; a frame, with its byte count and percentage; document 01's number
 pub data Said : Type 0 where
@@ -80,8 +80,8 @@ rotated c b =
     (delayed c (b .ring) ++ drop (valuesOf (c .description)) (b .deinterleaved)) (b .depunctured) (b .words) (b .bits) (b .frame)
 
 -- the depunctured values of what was read
-abbrev pub softOf : Channel → List ℤ → List ℤ
-softOf c ring = depuncture (mask (profileOf (c .description))) (delayed c ring)
+abbrev pub depuncturedOf : Channel → List ℤ → List ℤ
+depuncturedOf c ring = depuncture (mask (profileOf (c .description))) (delayed c ring)
 
 -- a whole CIF in b gives a frame
 pub record FramePromise (c : Channel) (b : Buffers) (said : Said) (b' : Buffers) : Type 0 where
@@ -89,9 +89,9 @@ pub record FramePromise (c : Channel) (b : Buffers) (said : Said) (b' : Buffers)
   pub words' : List ℕ
   pub bits' : List ℕ
   pub frame' : List ℕ
-  pub framing : Framed (endsOf (c .description .«is_eep»)) (c .description .bitrate) (softOf c (b .ring)) (b .words) (b .bits) (b .frame) percent words' bits' frame'
+  pub framing : Framed (endsOf (c .description .«is_eep»)) (c .description .bitrate) (depuncturedOf c (b .ring)) (b .words) (b .bits) (b .frame) percent words' bits' frame'
   pub answer : said ≡ framed (3 * c .description .bitrate) percent
-  pub lent : b' ≡ buffers (rotated c b .cif) (rotated c b .ring) (rotated c b .deinterleaved) (softOf c (b .ring) ++ drop (roomOf (c .description)) (b .depunctured)) words' bits' frame'
+  pub lent : b' ≡ buffers (rotated c b .cif) (rotated c b .ring) (rotated c b .deinterleaved) (depuncturedOf c (b .ring) ++ drop (roomOf (c .description)) (b .depunctured)) words' bits' frame'
 
 -- a whole CIF in b: of the first sixteen, only the ring and `deinterleaved` change
 unfoldable pub Completed : Bool → Channel → Buffers → Said → Buffers → Type 0
@@ -104,8 +104,8 @@ CifPromise c b said b' = Completed (due c) c b said b'
 -- what each turn leaves
 unfoldable pub Feeds : Turn → State → List ℤ → Buffers → State → Said → Buffers → Type 0
 Feeds (refuses n) s soft b s' said b' = (s' ≡ s) × (said ≡ refused n) × (b' ≡ b)
-Feeds gathers s soft b s' said b' = (s' ≡ nextState s) × (said ≡ waiting) × (b' ≡ gathered s soft b)
-Feeds completes s soft b s' said b' = (s' ≡ nextState s) × CifPromise (s .channel) (gathered s soft b) said b'
+Feeds gathers s soft b s' said b' = (s' ≡ stateAfter s) × (said ≡ waiting) × (b' ≡ gathered s soft b)
+Feeds completes s soft b s' said b' = (s' ≡ stateAfter s) × CifPromise (s .channel) (gathered s soft b) said b'
 
 pub record FeedPromise (s : State) (soft : List ℤ) (b : Buffers) (r : Fed) (b' : Buffers) : Type 0 where
   pub feeds : Feeds (turnOf s soft b) s soft b (r .state) (saidOf (r .answer)) b'

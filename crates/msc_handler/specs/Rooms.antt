@@ -4,7 +4,7 @@ use mathlib.Core.List.{List}
 use Prim.Native.Nat.{ℕ, _+_, _<_, _≤_}
 use lib.ListN.{length}
 use lib.IntN.{ℤ}
-use Rattle.en300401.specs.Interleaving.{cifBits}
+use Rattle.en300401.specs.Interleaving.{units, cifBits}
 use Rattle.protection.specs.declared.Description.{Description}
 use Rattle.protection.specs.Refusals.{refusalOf, roomOf}
 use Rattle.msc_state.specs.declared.Channel.{Channel}
@@ -14,7 +14,7 @@ use Rattle.msc_state.specs.States.{valuesOf, ringRoom, frameRoom, stepsOf}
 -- a CIF, a ring and a place for what is read
 pub record RingLent (c : Channel) (cif ring deinterleaved : List ℤ) : Type 0 where
   pub index : c .«ring_index» < 16
-  pub inside : c .description .«start_addr» + c .description .«sub_size» ≤ 864
+  pub inside : c .description .«start_addr» + c .description .«sub_size» ≤ units
   pub cif-long : cifBits ≤ length cif
   pub ring-long : ringRoom (c .description) ≤ length ring
   pub read-long : valuesOf (c .description) ≤ length deinterleaved

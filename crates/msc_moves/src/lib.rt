@@ -5,7 +5,7 @@ ghost use mathlib.Core.Path.{_≡_};
 ghost use mathlib.Core.Bool.{cond};
 ghost use Prim.Native.Nat.{_+_, _%_, _<_, min};
 ghost use lib.Dec.{ltb};
-ghost use Rattle.msc_state.specs.States.{mostFrames, nextChannel, nextState};
+ghost use Rattle.msc_state.specs.States.{mostFrames, channelAfter, stateAfter};
 
 // One more, modulo n.
 fn next(x: u8, n: u8) -> u8
@@ -45,7 +45,7 @@ fn frames_after(count: u8, frames: u64) -> u64
 
 // The sub-channel after a whole CIF.
 fn moved_on(channel: Channel) -> Channel
-    ensures { λ r. ⌜ r ≡ nextChannel channel ⌝ }
+    ensures { λ r. ⌜ r ≡ channelAfter channel ⌝ }
 {
     let count = counted(channel.cif_count);
     let d = channel.description;
@@ -59,7 +59,7 @@ fn moved_on(channel: Channel) -> Channel
 
 // The state after a symbol.
 pub fn after_symbol(state: State) -> State
-    ensures { λ r. ⌜ r ≡ nextState state ⌝ }
+    ensures { λ r. ⌜ r ≡ stateAfter state ⌝ }
 {
     let channel = state.channel;
     if state.symbols < 17 {

@@ -1,7 +1,7 @@
 -- Laws of refusals in their order, and what a call that is not refused has.
 -- Assumes nothing.
 use mathlib.Core.Path.{_≡_, refl, _∙_}
-use mathlib.Core.Bool.{Bool, true, false, true≢false, cond, not}
+use mathlib.Core.Bool.{Bool, true, false, true≢false, cond}
 use mathlib.Core.List.{List, [], _∷_}
 use Prim.Native.Nat.{ℕ, zero, suc, _≤_}
 use native.Mathlib.Omega.{arith}
@@ -12,7 +12,7 @@ use Rattle.protection.specs.declared.Description.{Description}
 use Rattle.protection.specs.Refusals.{refusalOf, roomOf}
 use Rattle.refusal.specs.Outcome.{check, firstOf}
 use Rattle.msc_state.specs.declared.State.{State}
-use Rattle.msc_state.specs.States.{anyOf, faults, badState, valuesOf, ringRoom, frameRoom, stepsOf, shortages, lacksRoom, setUpChecks, setUpRefusal, resetChecks, resetRefusal, feedChecks, feedRefusal}
+use Rattle.msc_state.specs.States.{anyOf, faults, badState, valuesOf, ringRoom, frameRoom, stepsOf, shortages, lacksRoom, Roomy, setUpChecks, setUpRefusal, resetChecks, resetRefusal, feedChecks, feedRefusal}
 
 -- no flag of a list holds
 pub data NoneOf : List Bool → Type 0 where
@@ -88,15 +88,6 @@ sound s e =
     }
 
 -- buffers that are long enough
-pub record Roomy (d : Description) (cif ring deinterleaved depunctured words bits frame : ℕ) : Type 0 where
-  pub cif-long : 55296 ≤ cif
-  pub ring-long : ringRoom d ≤ ring
-  pub read-long : valuesOf d ≤ deinterleaved
-  pub soft-long : roomOf d ≤ depunctured
-  pub words-long : stepsOf (d .bitrate) ≤ words
-  pub bits-long : stepsOf (d .bitrate) ≤ bits
-  pub frame-long : frameRoom d ≤ frame
-
 pub roomy : (d : Description) (cif ring deinterleaved depunctured words bits frame : ℕ) → lacksRoom d cif ring deinterleaved depunctured words bits frame ≡ false → Roomy d cif ring deinterleaved depunctured words bits frame
 unfolding lacksRoom
 roomy d cif ring deinterleaved depunctured words bits frame e =

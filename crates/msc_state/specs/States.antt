@@ -1,7 +1,7 @@
 -- Document 01, "Room" and "The numbers that turn a caller away": the state, what is to be lent, refusals 8 to 10, and the state after a call.
 use mathlib.Core.Bool.{Bool, true, false, cond, not}
 use mathlib.Core.List.{List, [], _∷_}
-use Prim.Native.Nat.{ℕ, _+_, _*_, _%_, min}
+use Prim.Native.Nat.{ℕ, _+_, _*_, _%_, _≤_, min}
 use lib.Dec.{eqb, ltb, leb}
 use Rattle.en300401.specs.Interleaving.{cifBits, symbolBits}
 use Rattle.protection.specs.declared.Description.{Description}
@@ -44,6 +44,16 @@ shortages d cif ring deinterleaved depunctured words bits frame =
 
 unfoldable pub lacksRoom : Description → ℕ → ℕ → ℕ → ℕ → ℕ → ℕ → ℕ → Bool
 lacksRoom d cif ring deinterleaved depunctured words bits frame = anyOf (shortages d cif ring deinterleaved depunctured words bits frame)
+
+-- each is long enough
+pub record Roomy (d : Description) (cif ring deinterleaved depunctured words bits frame : ℕ) : Type 0 where
+  pub cif-long : cifBits ≤ cif
+  pub ring-long : ringRoom d ≤ ring
+  pub read-long : valuesOf d ≤ deinterleaved
+  pub soft-long : roomOf d ≤ depunctured
+  pub words-long : stepsOf (d .bitrate) ≤ words
+  pub bits-long : stepsOf (d .bitrate) ≤ bits
+  pub frame-long : frameRoom d ≤ frame
 
 -- set-up: 1 to 7, then 8
 abbrev pub setUpChecks : Description → ℕ → List ℕ
@@ -90,8 +100,8 @@ abbrev pub mostFrames : ℕ
 mostFrames = 18446744073709551615
 
 -- after a whole CIF: the index moves on modulo 16, the count is held at 17, the frames at the largest number
-unfoldable pub nextChannel : Channel → Channel
-nextChannel c =
+unfoldable pub channelAfter : Channel → Channel
+channelAfter c =
     record {
       description = c .description;
       «ring_index» = (c .«ring_index» + 1) % 16;
@@ -100,7 +110,7 @@ nextChannel c =
     }
 
 -- after a symbol
-unfoldable pub nextState : State → State
-nextState s =
-    cond (whole s) (record { symbols = 0; «cif_in_frame» = (s .«cif_in_frame» + 1) % 4; channel = nextChannel (s .channel) })
+unfoldable pub stateAfter : State → State
+stateAfter s =
+    cond (whole s) (record { symbols = 0; «cif_in_frame» = (s .«cif_in_frame» + 1) % 4; channel = channelAfter (s .channel) })
     (record { symbols = s .symbols + 1; «cif_in_frame» = s .«cif_in_frame»; channel = s .channel })

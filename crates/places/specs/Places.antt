@@ -1,4 +1,4 @@
--- Document 01, "The numbers that turn a caller away": a description as six numbers, a refusal as one, and an answer in lent places.
+-- docs/DECISIONS.md, "For C": a description as six numbers, document 01's refusals as one, and an answer in lent places.
 use mathlib.Core.Path.{_≡_}
 use mathlib.Core.Bool.{not}
 use mathlib.Core.List.{List, [], _∷_, _++_}

@@ -17,7 +17,7 @@ use Rattle.profiles.specs.declared.Found.the-variants.{«Row» as RowFou
 abbrev pub bits : List Bool → List ℕ
 bits ks = map (λ (b : Bool). pickN b 1 0) ks
 
--- P_CODES[k] is the standard's PI k+1; none of the 24 keeps nothing
+-- P_CODES[k] is the standard's PI k+1; a number above 23 is none of the 24, and keeps nothing
 unfoldable pub vectorAt : ℕ → List Bool
 vectorAt pi = cond (ltb pi 24) (vector (pi + 1)) (replicate 32 false)
 

@@ -6,6 +6,7 @@ use mathlib.Core.Option.{Option, none, some}
 use Prim.Native.Nat.{ℕ, _+_, _*_, _%_}
 use lib.Dec.{eqb, ltb}
 use Rattle.en300401.specs.Puncturing.{Region, keptSize}
+use Rattle.en300401.specs.Interleaving.{units}
 use Rattle.en300401.specs.Eep.{unit, first, eepProfile}
 use Rattle.en300401.specs.Uep.{Row, uepRow, uepProfile}
 use Rattle.refusal.specs.Outcome.{check, firstOf}
@@ -34,7 +35,7 @@ rowRefusals d = cond (d .«is_eep») (eepRow (d .«eep_option») (d .«protectio
 
 -- 7: start plus size above 864
 abbrev pub outside : ℕ → ℕ → ℕ
-outside start size = check 7 (ltb 864 (start + size))
+outside start size = check 7 (ltb units (start + size))
 
 -- 5: the size differs; 6: the bitrate is no multiple of 8 or 32; 7
 unfoldable pub eepShape : ℕ → ℕ → ℕ → ℕ → ℕ → List ℕ

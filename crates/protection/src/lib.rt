@@ -14,7 +14,7 @@ ghost use Rattle.protection.specs.Refusals.{profileOf, rowRefusalOf, eep
 use profiles::Found;
 use refusal::Refusal;
 
-// A sub-channel's place, size and protection, as FIG 0/1 gives them: units, units, kbit/s.
+// A sub-channel's place, size, bit rate and protection, as they follow from FIG 0/1: units, units, kbit/s.
 pub struct Description {
     pub start_addr: u16,
     pub sub_size: u16,

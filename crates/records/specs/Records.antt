@@ -21,7 +21,7 @@ descriptionOf xs = record { «start_addr» = pairAt xs 0; «sub_size» = pairAt 
 abbrev pub counted : List ℕ → ℕ → List ℕ
 counted xs k = cond (ltb k 16) (set xs k (min (getD xs k 0 + 1) 18446744073709551615)) xs
 
--- what reading a part leaves: n bytes came, no more than a length of two bytes can say, and what lies beyond those is as it was
+-- what reading a part leaves: n bytes came, no more than a length of two bytes can say, and beyond 65,535 the buffer is as it was
 pub record Part (old : List ℕ) (n : ℕ) (new : List ℕ) : Type 0 where
   pub inside : n ≤ length new
   pub long : n ≡ length (take n new)

@@ -1,20 +1,21 @@
 -- A state to eleven numbers and back, and the tests of the numbers.
 -- Assumes nothing.
 use mathlib.Core.Path.{_≡_, refl, ap, _∙_}
-use mathlib.Core.Bool.{Bool, true, false, cond}
+use mathlib.Core.Bool.{Bool, true, false, cond, not}
 use mathlib.Core.List.{List, [], _∷_, _++_}
 use Prim.Native.Nat.{ℕ, _<_, _≤_}
 use native.Mathlib.Omega.{arith}
 use borrow.Author.Tests.{lt-ltb, le-ltb, ltb-false}
-use lib.Dec.{ltb}
+use lib.Dec.{eqb, ltb}
 use lib.ListN.{length, getD, set, drop}
 use Rattle.refusal.specs.Outcome.{check, unlessRefused}
+use Rattle.protection.specs.declared.Description.{Description}
 use Rattle.msc_state.specs.declared.State.{State}
 use Rattle.msc_state.specs.States.{anyOf}
 use Rattle.msc_state.proofs.Refusals.{none-of, off-at, last-flag, clean, zeroed, later, held-not}
-use Rattle.places.specs.Places.{short}
+use Rattle.places.specs.Places.{describes, short}
 use Rattle.state_numbers.specs.Code.{InRange}
-use Rattle.state_numbers.specs.Numbers.{flagOf, numbersOf, overs, outOfRange, statePut, stateRefusal}
+use Rattle.state_numbers.specs.Numbers.{flagOf, numbersOf, stateIn, overs, outOfRange, statePut, stateRefusal}
 
 -- eleven numbers in the first eleven places
 eleven-set : (a b c d e f g h i j k : ℕ) (xs : List ℕ) → 11 ≤ length xs → set (set (set (set (set (set (set (set (set (set (set xs 0 a) 1 b) 2 c) 3 d) 4 e) 5 f) 6 g) 7 h) 8 i) 9 j) 10 k ≡ (a ∷ b ∷ c ∷ d ∷ e ∷ f ∷ g ∷ h ∷ i ∷ j ∷ k ∷ []) ++ drop 11 xs
@@ -105,3 +106,29 @@ eight n h = rw (lt-ltb _ _ h) refl
 
 pub none : (n : ℕ) → 11 ≤ n → 0 ≡ short 11 n
 none n h = rw (le-ltb _ _ h) refl
+
+-- a state that was written and is read again is the same
+described-back : (d : Description) → describes (d .«start_addr») (d .«sub_size») (d .bitrate) (d .«protection_level») (d .«eep_option») (flagOf (d .«is_eep»)) ≡ d
+unfolding describes
+described-back d = ap (λ (b : Bool). record { «start_addr» = d .«start_addr»; «sub_size» = d .«sub_size»; bitrate = d .bitrate; «protection_level» = d .«protection_level»; «eep_option» = d .«eep_option»; «is_eep» = b }) (flag-back (d .«is_eep»))
+  where
+    flag-back : (b : Bool) → not (eqb (flagOf b) 0) ≡ b
+    flag-back true = refl
+    flag-back false = refl
+
+pub written-read : (s : State) (xs : List ℕ) → stateIn (statePut s xs) ≡ s
+unfolding numbersOf stateIn
+written-read s xs =
+    ap (λ (d : Description). record { symbols = s .symbols; «cif_in_frame» = s .«cif_in_frame»; channel = record { description = d; «ring_index» = s .channel .«ring_index»; «cif_count» = s .channel .«cif_count»; «frames_decoded» = s .channel .«frames_decoded» } })
+    (described-back (s .channel .description))
+
+-- and is taken, where the fields hold its numbers
+pub written-long : (s : State) (xs : List ℕ) → 11 ≤ length (statePut s xs)
+unfolding numbersOf
+written-long s xs = omega arith
+
+pub written-fits : (s : State) (xs : List ℕ) → InRange (numbersOf s) → outOfRange (statePut s xs) ≡ false
+unfolding outOfRange numbersOf
+written-fits s xs f =
+    let d = s .channel .description in
+    rw (le-ltb 255 (s .symbols) (f .symbols), le-ltb 255 (s .«cif_in_frame») (f .in-frame), le-ltb 255 (s .channel .«ring_index») (f .index), le-ltb 255 (s .channel .«cif_count») (f .count), le-ltb 65535 (d .«start_addr») (f .start), le-ltb 65535 (d .«sub_size») (f .size), le-ltb 65535 (d .bitrate) (f .rate), le-ltb 255 (d .«protection_level») (f .level), le-ltb 255 (d .«eep_option») (f .option)) refl

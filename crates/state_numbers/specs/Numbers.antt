@@ -1,4 +1,4 @@
--- Document 01, "msc/mod.rs": a state as eleven numbers, and back. Too few of them are refusal 8, one that its field does not hold is 10.
+-- docs/DECISIONS.md, "For C": the state of document 01's "msc/mod.rs" as eleven numbers, and back. Too few of them are refusal 8, one that its field does not hold is 10.
 use mathlib.Core.Bool.{Bool, cond}
 use mathlib.Core.List.{List, [], _∷_, _++_}
 use Prim.Native.Nat.{ℕ}

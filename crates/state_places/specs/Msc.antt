@@ -1,4 +1,4 @@
--- Document 01, "msc/mod.rs", "Room" and its refusals: what set-up, reset and feeding return and write, the state as eleven numbers.
+-- docs/DECISIONS.md, "For C": what document 01's set-up, reset and feeding return and write with the state as eleven numbers, and 8 for those.
 use mathlib.Core.Path.{_≡_}
 use mathlib.Core.List.{List, [], _∷_}
 use Prim.Native.Nat.{ℕ, _<_}

@@ -185,9 +185,21 @@ fn soft_of(kind: usize, length: usize, random: &mut Random) -> Vec<i8> {
     }
 }
 
+/// Every kind at lengths from where `of_all_kinds` ends up to the longest, other ones with every seed.
+pub fn long(end: &End, run: &Run, tally: &mut Tally) -> Outcome {
+    let mut random = run.random(&format!("{} long", end.name));
+    for kind in 0..KINDS {
+        for _ in 0..run.times(2, 10) {
+            let length = 3_992 + random.below(262_148 - 3_992);
+            one(end, &soft_of(kind, length, &mut random), spare(&mut random), tally)?;
+        }
+    }
+    Ok(())
+}
+
 /// 65,536 steps are decoded.
-pub fn longest(end: &End, tally: &mut Tally) -> Outcome {
-    let mut random = Random::new(0, end.name);
+pub fn longest(end: &End, run: &Run, tally: &mut Tally) -> Outcome {
+    let mut random = run.random(&format!("{} longest", end.name));
     for length in [262_144, 262_147] {
         one(end, &soft_of(7, length, &mut random), Spare(1, 1, 1), tally)?;
     }

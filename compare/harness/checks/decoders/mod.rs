@@ -51,7 +51,8 @@ fn all(end: &End, run: &Run, tally: &mut Tally) -> Outcome {
     inputs::three_steps(end, run, tally)?;
     inputs::nine_steps(end, run, tally)?;
     inputs::of_all_kinds(end, run, tally)?;
-    inputs::longest(end, tally)?;
+    inputs::long(end, run, tally)?;
+    inputs::longest(end, run, tally)?;
     inputs::refusals(end, run, tally)
 }
 

@@ -11,7 +11,7 @@ use mir.Syntax.{w64}
 use mir.Val.{Fits}
 use Rattle.laws.proofs.Bits.{below-take, below-drop}
 use Rattle.laws.proofs.Slices.{tail-part, tail-put, size-of-part}
-use Rattle.fic_handler.specs.Blocks.{KeptFib, KeptFibs, fibOf, passed, countOf}
+use Rattle.fic_handler.specs.Blocks.{KeptFib, KeptFibs, fibOf, passedBytes, countOf}
 use Rattle.fic_handler.proofs.Fibs.{count-le, kept-lt, kept-next}
 use Rattle.fic_handler.proofs.keep_fibs.Statement.{statement}
 use Rattle.fic_handler.proofs.keep_fibs.Tie as tie
@@ -52,7 +52,7 @@ abbrev μ-loop : tie.MeasureT-loop
 μ-loop bits fibs₀ kept₀ j₀ fibs kept j = 3 - j
 
 loop-holds : tie.Need-loop-holds Inv-loop μ-loop
-unfolding passed countOf
+unfolding passedBytes countOf
 loop-holds c = record { inside = omega arith; long = refl; fibs-are = record { kept-is = refl; bytes = refl } }
 
 mul-from : tie.Need-mul-from Inv-loop μ-loop

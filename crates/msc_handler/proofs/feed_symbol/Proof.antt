@@ -6,7 +6,7 @@ use native.Mathlib.Omega.{arith}
 use lib.ListN.{length}
 use Rattle.msc_handler.specs.Promises.{Buffers, buffers, refusalIn}
 use Rattle.msc_handler.specs.Ring.{stored}
-use Rattle.msc_state.specs.States.{nextState}
+use Rattle.msc_state.specs.States.{stateAfter}
 use Rattle.msc_handler.proofs.Feeding.{feed-refused, feed-gathers, feed-completes}
 use Rattle.msc_state.proofs.Refusals.{Accepted, accepted}
 use Rattle.msc_handler.proofs.feed_symbol.Statement.{statement}
@@ -30,7 +30,7 @@ sound c = accepted _ _ _ _ _ _ _ _ _ (none c)
 abbrev entry : tie.After-store → tie.Else1
 entry c = c .before .before .before
 
-moved : (c : tie.After-store) → c .before .before .after-symbol .result ≡ nextState (start (entry c) .args .state)
+moved : (c : tie.After-store) → c .before .before .after-symbol .result ≡ stateAfter (start (entry c) .args .state)
 moved c = c .before .before .after-symbol .ensures
 
 kept : (c : tie.After-store) → c .store .last .1 .0 ≡ stored (start (entry c) .args .cif .now) (start (entry c) .args .state .symbols) (start (entry c) .args .soft .now)

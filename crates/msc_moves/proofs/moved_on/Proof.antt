@@ -4,7 +4,7 @@ use borrow.Author.Needs.{needs}
 use mathlib.Core.Path.{_≡_, ap, _∙_}
 use mathlib.Core.Bool.{Bool, cond}
 use Prim.Native.Nat.{_+_, min}
-use Rattle.msc_state.specs.States.{due, mostFrames, nextChannel}
+use Rattle.msc_state.specs.States.{due, mostFrames, channelAfter}
 use Rattle.msc_moves.proofs.States.{due-is}
 use Rattle.msc_moves.proofs.moved_on.Statement.{statement}
 use Rattle.msc_moves.proofs.moved_on.Tie as tie
@@ -19,7 +19,7 @@ frames-after-requires : tie.Need-frames-after-requires
 frames-after-requires c κs = search needs
 
 returns : tie.Need-returns
-unfolding nextChannel
+unfolding channelAfter
 returns c =
     let f = c .before .before .before in
     let ch = f .before .args .channel in
