@@ -19,6 +19,7 @@ use Rattle.protection.specs.Answers.{judgedAs}
 use Rattle.protection.specs.Refusals.{Accepted}
 use Rattle.protection.proofs.Profiles.{accepted-place}
 use Rattle.refusal.specs.Outcome.{gives, refuses, outcome, unlessRefused}
+use Rattle.refusal.proofs.Laws.{given-number}
 use Rattle.msc_handler.specs.declared.Fed.{Fed}
 use Rattle.msc_set_up.specs.declared.SetUp.{SetUp}
 use Rattle.msc_state.specs.declared.State.{State}
@@ -74,17 +75,13 @@ flat c = joined (c .cifs) ++ c .begun
 -- ---- the calls, one by one
 
 -- set-up and reset, by their answer
-accepted-none : (n : ℕ) → outcome {A = Unit {0}} n tt ≡ gives tt → n ≡ 0
-accepted-none zero e = refl
-accepted-none (suc n) e = let z : _≡_ {A = ℕ} 0 1 = cc in absurd (omega arith)
-
 refused-second : {A : Type 0} (n k : ℕ) (a b : A) → outcome {A = Unit {0}} n tt ≡ refuses k → unlessRefused n a b ≡ b
 refused-second zero k a b e = let z : _≡_ {A = ℕ} 0 1 = cc in absurd (omega arith)
 refused-second (suc n) k a b e = refl
 
 module _ {n : ℕ} {d : Description} {other : State} {ring : List ℤ} {r : SetUp} {ring' : List ℤ} (p : Prepared n d other ring r ring') where
   not-refused : judgedAs (r .answer) ≡ gives tt → n ≡ 0
-  not-refused e = accepted-none n (sym (p .answer) ∙ e)
+  not-refused e = given-number n tt tt (sym e ∙ p .answer)
 
   ring-kept : (k : ℕ) → judgedAs (r .answer) ≡ refuses k → ring' ≡ ring
   ring-kept k e = p .ring-is ∙ refused-second n k _ ring (sym (p .answer) ∙ e)
