@@ -9,7 +9,7 @@ use borrow.Author.Tests.{le-leb, lt-ltb}
 use lib.ListN.{length, getD, take}
 use lib.IntN.{ℤ}
 use Rattle.laws.specs.Integers.{at}
-use Rattle.en300401.specs.Clean.{Agrees}
+use Rattle.spec_trellis.specs.Clean.{Agrees}
 use Rattle.en300401.specs.Interleaving.{delay, symbolBits}
 use Rattle.en300401.proofs.Interleaving.{delay-lt}
 use Rattle.protection.specs.declared.Description.{Description}

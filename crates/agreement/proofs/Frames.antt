@@ -11,13 +11,13 @@ use lib.Ieee.{Float}
 use Rattle.laws.specs.Bits.{AreBits, AreBytes}
 use Rattle.laws.specs.Integers.{at}
 use Rattle.en300401.specs.Bytes.{bitsOfBytes, bytesOfBits}
-use Rattle.en300401.specs.Clean.{Agrees}
+use Rattle.spec_trellis.specs.Clean.{Agrees}
 use Rattle.en300401.specs.Dispersal.{disperse}
 use Rattle.en300401.specs.MotherCode.{codeWord}
 use Rattle.en300401.specs.Puncturing.{mask, keptSize, depuncture}
-use Rattle.en300401.specs.Trellis.{Ends}
+use Rattle.spec_trellis.specs.Trellis.{Ends}
 use Rattle.en300401.proofs.Bytes.{bits-length, bits-of-bytes, bytes-back}
-use Rattle.en300401.proofs.CleanWord.{length-word}
+use Rattle.en300401.proofs.MotherCode.{length-word}
 use Rattle.en300401.proofs.Dispersal.{disperse-length, disperse-bits, disperse-twice}
 use Rattle.en300401.proofs.Puncturing.{length-puncture}
 use Rattle.packing.specs.Bytes.{bytesOf}

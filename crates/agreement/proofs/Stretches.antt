@@ -11,10 +11,10 @@ use lib.Seq.{ext-getD, take-at, length-take-le}
 use lib.IntN.{ℤ, pos}
 use lib.Ieee.{Float}
 use Rattle.laws.specs.Integers.{at}
-use Rattle.en300401.specs.Clean.{Agrees}
+use Rattle.spec_trellis.specs.Clean.{Agrees}
 use Rattle.en300401.specs.Interleaving.{delay}
 use Rattle.en300401.specs.Puncturing.{mask, depuncture}
-use Rattle.en300401.specs.Trellis.{Ends}
+use Rattle.spec_trellis.specs.Trellis.{Ends}
 use Rattle.en300401.proofs.Dispersal.{disperse-length}
 use Rattle.en300401.proofs.Interleaving.{interleaved-at}
 use Rattle.packing.specs.Bytes.{bytesOf}

@@ -6,7 +6,7 @@ use lib.ListN.{length, getD, take, drop}
 use lib.IntN.{ℤ}
 use lib.Ieee.{Float}
 use Rattle.laws.specs.Integers.{at}
-use Rattle.en300401.specs.Clean.{Agrees}
+use Rattle.spec_trellis.specs.Clean.{Agrees}
 use Rattle.en300401.specs.Interleaving.{delay, symbolBits}
 use Rattle.en300401.specs.Puncturing.{keptSize}
 use Rattle.protection.specs.declared.Description.{Description}

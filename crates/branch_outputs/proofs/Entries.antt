@@ -6,7 +6,7 @@ use Prim.Native.Nat.{ℕ, _<_}
 use lib.ListN.{getD}
 use Rattle.laws.specs.Lists.{listOf}
 use Rattle.laws.proofs.Lists.{listOf-at}
-use Rattle.en300401.specs.Trellis.{outBit}
+use Rattle.spec_trellis.specs.Trellis.{outBit}
 use Rattle.branch_outputs.specs.Outputs.{branchOutputs}
 
 pub entry : (s b g : ℕ) → s < 64 → b < 2 → g < 4 → getD (getD (getD branchOutputs s []) b []) g 0 ≡ outBit s b g

@@ -6,8 +6,8 @@ use native.Mathlib.Omega.{arith}
 use lib.IntN.{ℤ, pos}
 use lib.Count.{ones}
 use Rattle.laws.specs.Lists.{listFrom}
-use Rattle.en300401.specs.Trellis.{parity, outBit, signBy, branch, startScore, zeroEnd, freeEnd, Subtracted, none}
-use Rattle.en300401.proofs.TrellisProgram.{lowWay, highWay, takes, acs, survivor, takesAt, predOf, startInto, bitsInto}
+use Rattle.spec_trellis.specs.Trellis.{parity, outBit, signBy, branch, startScore, zeroEnd, freeEnd, Subtracted, none}
+use Rattle.spec_trellis.proofs.TrellisProgram.{lowWay, highWay, takes, acs, survivor, takesAt, predOf, startInto, bitsInto}
 use Rattle.en300401.proofs.Dispersal.{sixteen-zeros}
 use Rattle.protection.proofs.Cases.{case-9, case-10, needs-11, case-11, case-12}
 use Rattle.cases.specs.Table.{four, minus, Answers, AnswersFrom, Holds, AllHold, table}

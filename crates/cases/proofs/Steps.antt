@@ -13,10 +13,10 @@ use lib.Signed.{leZ, _≤ℤ_, ≤ℤ-refl}
 use Rattle.laws.specs.Lists.{listOf}
 use Rattle.laws.specs.Tables.{every}
 use Rattle.laws.proofs.Integers.{parts-le, lt-parts}
-use Rattle.en300401.specs.Trellis.{bitN, scoreOf, Wins, Ends, zeroEnd, freeEnd, Permits, Best, Top, Subtracted, none, kept}
-use Rattle.en300401.proofs.TrellisOrder.{best-unique}
-use Rattle.en300401.proofs.TrellisProgram.{survivor, startInto, bitsInto, into-score, zero-best}
-use Rattle.en300401.proofs.TrellisShort.{under, free-best-by-test}
+use Rattle.spec_trellis.specs.Trellis.{bitN, scoreOf, Wins, Ends, zeroEnd, freeEnd, Permits, Best, Top, Subtracted, none, kept}
+use Rattle.spec_trellis.proofs.TrellisOrder.{best-unique}
+use Rattle.spec_trellis.proofs.TrellisProgram.{survivor, startInto, bitsInto, into-score, zero-best}
+use Rattle.spec_trellis.proofs.TrellisShort.{under, free-best-by-test}
 use Rattle.viterbi.specs.declared.Decoding.{Decoding}
 use Rattle.viterbi.specs.declared.Decoding.the-variants.{Done}
 use Rattle.viterbi.specs.Decoders.{steps, answerOf, Decoded}

@@ -7,7 +7,7 @@ use lib.ListN.{replicate}
 use lib.IntN.{ℤ, pos, negℤ}
 use Rattle.en300401.specs.Dispersal.{disperse}
 use Rattle.en300401.specs.Puncturing.{keptSize}
-use Rattle.en300401.specs.Trellis.{Ends, zeroEnd, freeEnd}
+use Rattle.spec_trellis.specs.Trellis.{Ends, zeroEnd, freeEnd}
 use Rattle.protection.specs.declared.Description.{Description}
 use Rattle.protection.specs.Refusals.{profileOf, refusalOf}
 use Rattle.viterbi.specs.Decoders.{steps}

@@ -1,1 +1,1 @@
-// The standard's definitions, and the trellis as document 01 has it. No code: see specs/, and proofs/ for the laws about them.
+// The standard's definitions. No code: see specs/, and proofs/ for the laws about them.

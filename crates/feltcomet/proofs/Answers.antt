@@ -11,7 +11,7 @@ use lib.Dec.{ltb}
 use lib.ListN.{length, set}
 use lib.IntN.{ℤ}
 use Rattle.en300401.specs.Puncturing.{Region}
-use Rattle.en300401.specs.Trellis.{Ends}
+use Rattle.spec_trellis.specs.Trellis.{Ends}
 use Rattle.refusal.specs.Outcome.{check, orElse}
 use Rattle.refusal.proofs.Laws.{orElse-zero}
 use Rattle.refusal.specs.declared.Refusal.{Refusal}

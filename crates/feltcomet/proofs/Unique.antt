@@ -7,7 +7,7 @@ use native.Mathlib.Omega.{arith}
 use lib.ListN.{drop}
 use lib.IntN.{ℤ}
 use Rattle.en300401.specs.Puncturing.{Region}
-use Rattle.en300401.specs.Trellis.{Ends}
+use Rattle.spec_trellis.specs.Trellis.{Ends}
 use Rattle.protection.specs.declared.Description.{Description}
 use Rattle.viterbi.specs.declared.Decoding.{Decoding}
 use Rattle.viterbi.specs.declared.Decoding.the-variants.{Done, Refused}

@@ -5,7 +5,7 @@ use mathlib.Core.Option.{Option, none, some}
 use Prim.Native.Nat.{ℕ, _<_}
 use lib.ListN.{length, drop}
 use lib.IntN.{ℤ}
-use Rattle.en300401.specs.Trellis.{Ends}
+use Rattle.spec_trellis.specs.Trellis.{Ends}
 use Rattle.refusal.specs.Outcome.{orElse}
 use Rattle.viterbi.specs.Decoders.{steps, refusal, done, Decoded}
 use Rattle.places.specs.Places.{short}

@@ -5,7 +5,7 @@ ghost use Prim.Native.Nat.{_<_};
 ghost use lib.ListN.{length};
 ghost use Rattle.en300401.specs.Dispersal.{disperse};
 ghost use Rattle.en300401.specs.Puncturing.{keptSize};
-ghost use Rattle.en300401.specs.Trellis.{zeroEnd, freeEnd};
+ghost use Rattle.spec_trellis.specs.Trellis.{zeroEnd, freeEnd};
 ghost use Rattle.crc.specs.Tests.{byteTest, bitTest};
 ghost use Rattle.protection.specs.Promises.{motherSize};
 ghost use Rattle.protection.specs.Refusals.{refusalOf};

@@ -15,13 +15,13 @@ use Rattle.laws.specs.Integers.{at}
 use Rattle.laws.specs.Words.{pickN}
 use Rattle.laws.proofs.Bits.{below-nil, below-cons, below-append}
 use Rattle.en300401.specs.Bytes.{bitsOfBytes, bytesOfBits}
-use Rattle.en300401.specs.Clean.{Agrees}
+use Rattle.spec_trellis.specs.Clean.{Agrees}
 use Rattle.en300401.specs.Crc.{crcWord, fibValid}
 use Rattle.en300401.specs.Dispersal.{disperse}
 use Rattle.en300401.specs.MotherCode.{codeWord}
 use Rattle.en300401.specs.Puncturing.{mask, ficProfile, keptSize}
 use Rattle.en300401.proofs.Bytes.{bits-length, bits-of-bytes, bytes-back, take-bits, drop-bits, two-bytes}
-use Rattle.en300401.proofs.CleanWord.{length-word}
+use Rattle.en300401.proofs.MotherCode.{length-word}
 use Rattle.en300401.proofs.Dispersal.{disperse-length, disperse-bits, disperse-twice}
 use Rattle.en300401.proofs.Puncturing.{length-puncture, fic-length, fic-kept}
 use Rattle.viterbi.proofs.Clean.{clean-decoded}

@@ -6,7 +6,7 @@ use lib.ListN.{getD, take, drop}
 use lib.IntN.{ℤ}
 use Rattle.laws.specs.Integers.{at}
 use Rattle.refusal.specs.Outcome.{gives}
-use Rattle.en300401.specs.Clean.{Agrees}
+use Rattle.spec_trellis.specs.Clean.{Agrees}
 use Rattle.fic_handler.specs.declared.Fic.{Fic}
 use Rattle.fic_handler.specs.Blocks.{blocksIn, Lent}
 use Rattle.fic_handler.specs.Promise.{answerOf}

@@ -12,7 +12,7 @@ use lib.Seq.{take-at, length-take-le}
 use Rattle.laws.specs.Bits.{AreBits}
 use Rattle.laws.proofs.Bits.{below-take}
 use Rattle.en300401.specs.Puncturing.{mask, depuncture, ficProfile}
-use Rattle.en300401.specs.Trellis.{zeroEnd}
+use Rattle.spec_trellis.specs.Trellis.{zeroEnd}
 use Rattle.en300401.proofs.Dispersal.{disperse-length, disperse-bits}
 use Rattle.en300401.proofs.Puncturing.{length-depuncture, fic-length}
 use Rattle.refusal.specs.Outcome.{check, unlessRefused}

@@ -10,7 +10,7 @@ use Rattle.en300401.specs.Bytes.{bytesOfBits}
 use Rattle.en300401.specs.Crc.{fibValid}
 use Rattle.en300401.specs.Dispersal.{disperse}
 use Rattle.en300401.specs.Puncturing.{mask, depuncture, ficProfile}
-use Rattle.en300401.specs.Trellis.{zeroEnd}
+use Rattle.spec_trellis.specs.Trellis.{zeroEnd}
 use Rattle.quality.specs.declared.Quality.{Quality}
 use Rattle.quality.specs.Figures.{qualityOf}
 use Rattle.viterbi.specs.Result.{Decodes, ChoiceWords}

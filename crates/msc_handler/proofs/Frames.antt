@@ -11,7 +11,7 @@ use lib.Seq.{length-take-le, take-at, take-append-le, drop-append-le}
 use lib.IntN.{ℤ}
 use lib.Ieee.{Float}
 use Rattle.en300401.specs.Dispersal.{disperse}
-use Rattle.en300401.specs.Trellis.{Ends}
+use Rattle.spec_trellis.specs.Trellis.{Ends}
 use Rattle.en300401.proofs.Dispersal.{disperse-length}
 use Rattle.packing.specs.Bytes.{bytesOf, packed}
 use Rattle.quality.specs.Figures.{sumAbs, percentOf, qualityOf, measured}

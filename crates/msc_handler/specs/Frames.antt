@@ -7,7 +7,7 @@ use lib.ListN.{length, take, drop}
 use lib.IntN.{ℤ, pos}
 use lib.Ieee.{Float, fin}
 use Rattle.en300401.specs.Dispersal.{disperse}
-use Rattle.en300401.specs.Trellis.{Ends}
+use Rattle.spec_trellis.specs.Trellis.{Ends}
 use Rattle.msc_state.specs.States.{stepsOf}
 use Rattle.packing.specs.Bytes.{bytesOf}
 use Rattle.quality.specs.Figures.{sumAbs, percentOf}

@@ -6,8 +6,8 @@ use Prim.Native.Nat.{ℕ, _+_, _*_, _/_, _%_, _<_, _≤_}
 use native.Mathlib.Omega.{arith}
 use lib.IntN.{ℤ, natAbs, _+ℤ_}
 use Rattle.laws.proofs.Integers.{abs-sum}
-use Rattle.en300401.specs.Trellis.{outBit, signBy, soft, branch}
-use Rattle.en300401.proofs.Trellis.{Soft, sign-abs, out-lt}
+use Rattle.spec_trellis.specs.Trellis.{outBit, signBy, soft, branch}
+use Rattle.spec_trellis.proofs.Trellis.{Soft, sign-abs, out-lt}
 use Rattle.viterbi.specs.Steps.{branchOf, patternOf, correlationOf}
 
 -- a register is its state and its input

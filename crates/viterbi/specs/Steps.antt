@@ -6,8 +6,8 @@ use Prim.Native.Nat.{ℕ, _+_, _*_, _/_, _%_, _<_, _≤_}
 use lib.ListN.{getD}
 use lib.IntN.{ℤ, natAbs, _+ℤ_}
 use Rattle.laws.specs.Integers.{at}
-use Rattle.en300401.specs.Trellis.{outBit, signBy}
-use Rattle.en300401.proofs.TrellisPass.{FirstGreatest}
+use Rattle.spec_trellis.specs.Trellis.{outBit, signBy}
+use Rattle.spec_trellis.proofs.TrellisPass.{FirstGreatest}
 
 -- what a step with these soft values adds, from state s at input b
 unfoldable pub branchOf : ℤ → ℤ → ℤ → ℤ → ℕ → ℕ → ℤ

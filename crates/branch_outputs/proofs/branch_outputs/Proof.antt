@@ -1,7 +1,7 @@
 use mathlib.Core.Path.{refl}
 use lib.Count.{ones, onesIn}
 use Rattle.laws.specs.Lists.{listFrom}
-use Rattle.en300401.specs.Trellis.{parity, outBit}
+use Rattle.spec_trellis.specs.Trellis.{parity, outBit}
 use Rattle.branch_outputs.specs.Outputs.{branchOutputs}
 use Rattle.branch_outputs.proofs.branch_outputs.Statement.{statement}
 use Rattle.branch_outputs.proofs.branch_outputs.Tie as tie

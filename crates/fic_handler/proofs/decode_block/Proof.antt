@@ -11,7 +11,7 @@ use lib.Seq.{take-append-le, drop-append-le}
 use mir.Syntax.{w32}
 use Rattle.laws.proofs.Machine.{back}
 use Rattle.en300401.specs.Dispersal.{disperse}
-use Rattle.en300401.specs.Trellis.{zeroEnd}
+use Rattle.spec_trellis.specs.Trellis.{zeroEnd}
 use Rattle.quality.specs.declared.Quality.{Quality}
 use Rattle.quality.specs.Figures.{qualityOf}
 use Rattle.viterbi.specs.declared.Decoding.{Decoding}

@@ -1,5 +1,5 @@
 use mathlib.Core.Path.{refl}
-use Rattle.en300401.specs.Trellis.{parity}
+use Rattle.spec_trellis.specs.Trellis.{parity}
 use Rattle.parity.proofs.parity_of.Statement.{statement}
 use Rattle.parity.proofs.parity_of.Tie as tie
 

@@ -9,8 +9,8 @@ use mir.Facts.{toZ-ofZ}
 use borrow.Author.Needs.{needs}
 use Rattle.laws.specs.Integers.{at}
 use Rattle.laws.proofs.Integers.{abs-fits}
-use Rattle.en300401.proofs.TrellisPass.{scores-within}
-use Rattle.en300401.proofs.TrellisTrace.{traced}
+use Rattle.spec_trellis.proofs.TrellisPass.{scores-within}
+use Rattle.spec_trellis.proofs.TrellisTrace.{traced}
 use Rattle.viterbi.specs.Decoders.{endsOf, Accepted}
 use Rattle.viterbi.proofs.Paths.{accepted}
 use Rattle.viterbi.proofs.best_path.Statement.{statement}

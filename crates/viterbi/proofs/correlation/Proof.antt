@@ -8,8 +8,8 @@ use mir.Facts.{toZ-ofZ}
 use borrow.Author.Needs.{needs}
 use Rattle.laws.proofs.Integers.{abs-sum}
 use Rattle.laws.proofs.Machine.{back}
-use Rattle.en300401.specs.Trellis.{signBy}
-use Rattle.en300401.proofs.Trellis.{sign-abs}
+use Rattle.spec_trellis.specs.Trellis.{signBy}
+use Rattle.spec_trellis.proofs.Trellis.{sign-abs}
 use Rattle.viterbi.specs.Steps.{correlationOf}
 use Rattle.viterbi.proofs.correlation.Statement.{statement}
 use Rattle.viterbi.proofs.correlation.Tie as tie

@@ -14,10 +14,10 @@ use Rattle.laws.specs.Integers.{at}
 use Rattle.laws.specs.Words.{wordOf}
 use Rattle.laws.proofs.Machine.{back}
 use Rattle.laws.proofs.Slices.{filled}
-use Rattle.en300401.specs.Trellis.{soft, branch}
-use Rattle.en300401.proofs.Trellis.{Soft, Softs, softs-next}
-use Rattle.en300401.proofs.TrellisProgram.{takes, acs, takesAt}
-use Rattle.en300401.proofs.TrellisPass.{Running, running-zero, running-next, scores-within, choices-are, new-within}
+use Rattle.spec_trellis.specs.Trellis.{soft, branch}
+use Rattle.spec_trellis.proofs.Trellis.{Soft, Softs, softs-next}
+use Rattle.spec_trellis.proofs.TrellisProgram.{takes, acs, takesAt}
+use Rattle.spec_trellis.proofs.TrellisPass.{Running, running-zero, running-next, scores-within, choices-are, new-within}
 use Rattle.viterbi.specs.Steps.{branchOf}
 use Rattle.viterbi.proofs.Steps.{branch-is}
 use Rattle.viterbi.proofs.forward.Statement.{statement}

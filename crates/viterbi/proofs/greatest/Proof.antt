@@ -10,7 +10,7 @@ use borrow.Author.Needs.{needs}
 use Rattle.laws.specs.Integers.{at, pickZ}
 use Rattle.laws.proofs.Integers.{abs-fits}
 use Rattle.laws.proofs.Machine.{back}
-use Rattle.en300401.proofs.TrellisPass.{Greatest, greatest-one, greatest-next}
+use Rattle.spec_trellis.proofs.TrellisPass.{Greatest, greatest-one, greatest-next}
 use Rattle.viterbi.proofs.greatest.Statement.{statement}
 use Rattle.viterbi.proofs.greatest.Tie as tie
 

@@ -1,6 +1,6 @@
 use native.Mathlib.Omega.{arith}
 use borrow.Author.Needs.{needs}
-use Rattle.en300401.proofs.Trellis.{out-lt}
+use Rattle.spec_trellis.proofs.Trellis.{out-lt}
 use Rattle.viterbi.specs.Steps.{patternOf}
 use Rattle.viterbi.proofs.pattern.Statement.{statement}
 use Rattle.viterbi.proofs.pattern.Tie as tie

@@ -10,7 +10,7 @@ use mir.Facts.{toZ-ofZ}
 use borrow.Author.Needs.{needs, sfits-of}
 use Rattle.laws.specs.Integers.{at}
 use Rattle.laws.proofs.Integers.{parts-le, parts-lt, ltZ-false, ltZ-true}
-use Rattle.en300401.proofs.TrellisPass.{stays, falls}
+use Rattle.spec_trellis.proofs.TrellisPass.{stays, falls}
 use Rattle.viterbi.proofs.renormalised.Statement.{statement}
 use Rattle.viterbi.proofs.renormalised.Tie as tie
 

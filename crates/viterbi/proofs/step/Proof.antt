@@ -15,8 +15,8 @@ use Rattle.laws.specs.Words.{pickN, wordOf}
 use Rattle.laws.proofs.Machine.{back}
 use Rattle.laws.proofs.Slices.{filled}
 use Rattle.laws.proofs.Words.{word-next}
-use Rattle.en300401.proofs.Trellis.{Soft}
-use Rattle.en300401.proofs.TrellisProgram.{takes, acs, lowWay, highWay}
+use Rattle.spec_trellis.proofs.Trellis.{Soft}
+use Rattle.spec_trellis.proofs.TrellisProgram.{takes, acs, lowWay, highWay}
 use Rattle.viterbi.specs.Steps.{branchOf, patternOf}
 use Rattle.viterbi.proofs.Steps.{pattern-lt, correlation-abs, correlation-branch}
 use Rattle.viterbi.proofs.step.Statement.{statement}

@@ -14,10 +14,10 @@ use Rattle.laws.specs.Integers.{up, dn, pickZ}
 use Rattle.laws.specs.Words.{pickN, wordOf}
 use Rattle.laws.proofs.Integers.{diff, abs-sum, parts-le, le-parts, parts-lt, parts-eq, ltZ-true, ltZ-false, ≤ℤ-trans}
 use Rattle.laws.proofs.Words.{word-ext}
-use Rattle.en300401.specs.Trellis.{branch, startScore, Top, Subtracted, none, kept, renewed}
-use Rattle.en300401.proofs.Trellis.{Softs, branch-le}
-use Rattle.en300401.proofs.TrellisProgram.{takes, acs, survivor, takesAt, way-is, pick-lt, takes-shift, acs-shift, survivor-top}
-use Rattle.en300401.proofs.TrellisSubtracted.{running-within}
+use Rattle.spec_trellis.specs.Trellis.{branch, startScore, Top, Subtracted, none, kept, renewed}
+use Rattle.spec_trellis.proofs.Trellis.{Softs, branch-le}
+use Rattle.spec_trellis.proofs.TrellisProgram.{takes, acs, survivor, takesAt, way-is, pick-lt, takes-shift, acs-shift, survivor-top}
+use Rattle.spec_trellis.proofs.TrellisSubtracted.{running-within}
 
 -- ---- the greatest of some values
 

@@ -10,10 +10,10 @@ use lib.Seq.{drop-cons, lt-length-set, getD-set-same, drop-set-lt, drop-length}
 use lib.IntN.{ℤ}
 use Rattle.laws.specs.Words.{pickN, wordOf}
 use Rattle.laws.proofs.Words.{word-bit}
-use Rattle.en300401.specs.Trellis.{bitN, endOf, BestInto}
-use Rattle.en300401.proofs.Trellis.{isOdd, odd-is}
-use Rattle.en300401.proofs.TrellisOrder.{SamePath, into-unique}
-use Rattle.en300401.proofs.TrellisProgram.{takesAt, predOf, pred-lt, startInto, bitsInto, into-best, into-end}
+use Rattle.spec_trellis.specs.Trellis.{bitN, endOf, BestInto}
+use Rattle.spec_trellis.proofs.Trellis.{isOdd, odd-is}
+use Rattle.spec_trellis.proofs.TrellisOrder.{SamePath, into-unique}
+use Rattle.spec_trellis.proofs.TrellisProgram.{takesAt, predOf, pred-lt, startInto, bitsInto, into-best, into-end}
 
 -- the predecessor of t at step k, as the words have it
 unfoldable pub cameFrom : List ℕ → ℕ → ℕ → ℕ

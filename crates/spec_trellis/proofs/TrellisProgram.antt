@@ -14,8 +14,8 @@ use lib.Signed.{ltZ, _≤ℤ_, _<ℤ_, ≤ℤ-refl}
 use Rattle.laws.specs.Integers.{up, dn, pickZ}
 use Rattle.laws.specs.Words.{pickN}
 use Rattle.laws.proofs.Integers.{sum, diff, parts-le, le-parts, parts-lt, lt-parts, parts-eq, ltZ-true, ltZ-false, ltZ-shift, ≤ℤ-trans, ≤ℤ-antisym, +ℤ-mono}
-use Rattle.en300401.specs.Trellis.{bitN, branch, nextState, endOf, startScore, scoreOf, FirstLower, Wins, zeroEnd, freeEnd, Permits, Best, BestInto, Top}
-use Rattle.en300401.proofs.Trellis.{next-bit, next-low, next-high, end-lt, before-cases, bit-is, isOdd, odd-is}
+use Rattle.spec_trellis.specs.Trellis.{bitN, branch, nextState, endOf, startScore, scoreOf, FirstLower, Wins, zeroEnd, freeEnd, Permits, Best, BestInto, Top}
+use Rattle.spec_trellis.proofs.Trellis.{next-bit, next-low, next-high, end-lt, before-cases, bit-is, isOdd, odd-is}
 
 -- ---- one step: σ the scores by state, β what the step adds by state and input
 

@@ -11,11 +11,11 @@ use mir.Syntax.{w32}
 use mir.Val.{SFits}
 use Rattle.laws.specs.Integers.{up, dn}
 use Rattle.laws.proofs.Integers.{diff, abs-parts, abs-sum, abs-fits, parts-le, le-parts, parts-lt, lt-parts}
-use Rattle.en300401.specs.Trellis.{bitN, branch, startScore, endOf, scoreOf, BestInto, Top, Subtracted, none, kept, renewed}
-use Rattle.en300401.proofs.Trellis.{Softs, branch-le, end-lt}
-use Rattle.en300401.proofs.TrellisOrder.{top-unique}
-use Rattle.en300401.proofs.TrellisProgram.{survivor, startInto, bitsInto, into-start, into-length, into-score, into-best, at-most, best-score}
-use Rattle.en300401.proofs.TrellisSpread.{spread, no-fall}
+use Rattle.spec_trellis.specs.Trellis.{bitN, branch, startScore, endOf, scoreOf, BestInto, Top, Subtracted, none, kept, renewed}
+use Rattle.spec_trellis.proofs.Trellis.{Softs, branch-le, end-lt}
+use Rattle.spec_trellis.proofs.TrellisOrder.{top-unique}
+use Rattle.spec_trellis.proofs.TrellisProgram.{survivor, startInto, bitsInto, into-start, into-length, into-score, into-best, at-most, best-score}
+use Rattle.spec_trellis.proofs.TrellisSpread.{spread, no-fall}
 
 pub subtracted-unique : {xs : List ℤ} {n : ℕ} {d e : ℤ} → Subtracted xs n d → Subtracted xs n e → d ≡ e
 subtracted-unique none none = refl

@@ -12,8 +12,8 @@ use lib.IntN.{ℤ}
 use lib.Signed.{_≤ℤ_, _<ℤ_}
 use Rattle.laws.specs.Integers.{up, dn}
 use Rattle.laws.proofs.Integers.{lt-parts, parts-lt, parts-eq, ≤ℤ-antisym}
-use Rattle.en300401.specs.Trellis.{bitN, nextState, endOf, scoreOf, FirstLower, Wins, Ends, Best, BestInto, Top}
-use Rattle.en300401.proofs.Trellis.{next-bit, bit-is, isOdd, odd-bit}
+use Rattle.spec_trellis.specs.Trellis.{bitN, nextState, endOf, scoreOf, FirstLower, Wins, Ends, Best, BestInto, Top}
+use Rattle.spec_trellis.proofs.Trellis.{next-bit, bit-is, isOdd, odd-bit}
 
 -- equal ends have equal newest bits
 pub bit-same : (e e' : ℕ) (b b' : Bool) → nextState e (bitN b) ≡ nextState e' (bitN b') → b ≡ b'

@@ -4,7 +4,7 @@ use mathlib.Core.Path.{_≡_, refl, sym, ap, ap₂, _∙_, subst}
 use mathlib.Core.Bool.{Bool, true, false, true≢false, false≢true}
 use mathlib.Core.List.{List, [], _∷_, _++_, map, reverse, reverseAux}
 use mathlib.Core.Logic.{inl, inr}
-use Prim.Native.Nat.{ℕ, zero, suc, _+_, _*_, _/_, _%_, _<_, _≤_}
+use Prim.Native.Nat.{ℕ, zero, suc, _+_, _*_, _<_, _≤_}
 use native.Mathlib.Omega.{arith}
 use native.Mathlib.Numerals.{add-six}
 use native.Mathlib.Nat.{add-zero, zero-add, not-suc-le-zero}
@@ -13,17 +13,17 @@ use lib.IntN.{ℤ, pos}
 use Rattle.laws.specs.Bits.{AreBits}
 use Rattle.laws.specs.Integers.{at}
 use Rattle.laws.proofs.Bits.{below-head, below-tail}
-use Rattle.laws.proofs.Lists.{length-listOf}
 use Rattle.laws.proofs.Words.{bit-lt}
-use Rattle.en300401.specs.Clean.{Agrees}
+use Rattle.spec_trellis.specs.Clean.{Agrees}
 use Rattle.en300401.specs.MotherCode.{codeBit, codeWord}
 use Rattle.en300401.specs.Puncturing.{Region, mask, puncture, depuncture}
-use Rattle.en300401.specs.Trellis.{bitN, soft, endOf, scoreOf, Ends, zeroEnd, freeEnd, Permits, Best}
-use Rattle.en300401.proofs.Trellis.{isOdd, odd-is}
-use Rattle.en300401.proofs.TrellisOrder.{SamePath, best-unique}
-use Rattle.en300401.proofs.MotherCode.{Spells, nothing, next, output-is, six-zeros, word-at}
-use Rattle.en300401.proofs.Clean.{Fair, agrees-not-zero, Clean, none, step, weights, clean-score, clean-best}
+use Rattle.spec_trellis.specs.Trellis.{bitN, soft, endOf, scoreOf, Ends, zeroEnd, freeEnd, Permits, Best}
+use Rattle.spec_trellis.proofs.Trellis.{isOdd, odd-is}
+use Rattle.spec_trellis.proofs.TrellisOrder.{SamePath, best-unique}
+use Rattle.spec_trellis.proofs.MotherCode.{Spells, nothing, next, output-is, six-zeros}
+use Rattle.spec_trellis.proofs.Clean.{Fair, agrees-not-zero, Clean, none, step, weights, clean-score, clean-best}
+use Rattle.en300401.proofs.MotherCode.{word-at, length-word}
 use Rattle.en300401.proofs.Puncturing.{firsts-mask, first-kept}
 
 -- ---- the path of a message
 
@@ -161,10 +161,6 @@ kept-agree (true ∷ ks) (x ∷ word) (v ∷ vs) e f zero l k = f 0 (omega arith
 kept-agree (true ∷ ks) (x ∷ word) (v ∷ vs) e f (suc j) l k = kept-agree ks word vs (omega arith) (λ i h. f (suc i) (omega arith)) j (omega arith) k
 kept-agree (false ∷ ks) (x ∷ word) vs e f zero l k = absurd (false≢true k)
 kept-agree (false ∷ ks) (x ∷ word) vs e f (suc j) l k = kept-agree ks word vs (omega arith) f j (omega arith) k
-
-pub length-word : (m : List ℕ) → length (codeWord m) ≡ 4 * (length m + 6)
-unfolding codeWord
-length-word m = length-listOf (4 * (length m + 6)) (λ (j : ℕ). codeBit (λ (i : ℕ). getD m i 0) (j % 4) (j / 4))
 
 -- a message sent under a profile's mask, and values that agree with what was sent, one after the other; surplus may follow
 pub sent-clean : {m : List ℕ} (rs : List Region) {vs : List ℤ} → AreBits m → length (mask rs) ≡ 4 * (length m + 6) → ((i : ℕ) → i < length (puncture (mask rs) (codeWord m)) → Agrees (at vs i) (getD (puncture (mask rs) (codeWord m)) i 0)) → CleanWord m (mask rs) vs

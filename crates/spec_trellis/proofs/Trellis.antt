@@ -17,7 +17,7 @@ use Rattle.laws.proofs.Integers.{abs-sum, abs-neg}
 use Rattle.laws.proofs.Lists.{listOf-at}
 use Rattle.laws.proofs.Tables.{rule-at}
 use Rattle.laws.proofs.Words.{bit-lt}
-use Rattle.en300401.specs.Trellis.{bitN, parity, outBit, signBy, soft, branch, nextState, endOf}
+use Rattle.spec_trellis.specs.Trellis.{bitN, parity, outBit, signBy, soft, branch, nextState, endOf}
 
 -- a soft value, signed by an output
 pub sign-zero : (o : ℕ) (v : ℤ) → o ≡ 0 → signBy o v ≡ negℤ v
