@@ -1,4 +1,5 @@
 -- Laws of descriptions that the proofs share, and that callers cite.
+pub mod Accepted
 pub mod Cases
 pub mod Params
 pub mod Profiles
