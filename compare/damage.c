@@ -326,14 +326,14 @@ static void draw_buffers(Call *c, bool turned_away) {
 }
 
 /* Whether a buffer has a need that it can fall short of. */
-static bool room(const Call *c, int i) { return c->lent[i].use != READ && c->function != ENERGY_DISPERSAL; }
+static bool can_be_short(const Call *c, int i) { return c->lent[i].use != READ && c->function != ENERGY_DISPERSAL; }
 
-/* Room to the place, now and then some more, and less in the buffer that is to be short; or near the need in all of them. */
+/* The needed lengths to the place, now and then some more, and less in the buffer that is to be short; or near the need in all of them. */
 static void draw_lengths(Call *c, int scant) {
     bool surplus = one_in(3), loose = scant == NONE && one_in(10);
     for (int i = 0; i < c->buffers; i++) {
         Lent *l = &c->lent[i];
-        if (!room(c, i))
+        if (!can_be_short(c, i))
             continue;
         if (i == scant)
             l->length = l->need == 0 ? 0 : one_in(2) ? l->need - 1 : one_in(2) ? 0 : below(l->need);
@@ -344,7 +344,7 @@ static void draw_lengths(Call *c, int scant) {
     }
 }
 
-/* A FIB that passes, as far as there is room for it, or one with a place changed. */
+/* A FIB that passes, as far as the buffer reaches, or one with a place changed. */
 static void put_fib(Call *c) {
     Lent *l = &c->lent[0];
     bool bytes = c->function == FIB_CRC_VALID, fits = bytes ? l->length >= 32 : l->length == 256;
@@ -397,7 +397,7 @@ static int answer_of(const Call *c) {
     const Lent *l = c->lent;
     int judged = judge(&c->d), scant = 0;
     for (int i = 0; i < c->buffers; i++)
-        if (room(c, i) && l[i].length < l[i].need)
+        if (can_be_short(c, i) && l[i].length < l[i].need)
             scant = 8;
     switch (c->function) {
     case ENERGY_DISPERSAL: return 0;
@@ -412,7 +412,7 @@ static int answer_of(const Call *c) {
     case PROCESS_FIC: return l[0].length > SYMBOL || l[1].length > SYMBOL || l[2].length > SYMBOL ? 11 : scant;
     case RESET: return l[0].length < STATE ? 8 : bad_state(c->state) ? 10 : scant;
     case FEED_SYMBOL:
-        if (l[FEED_STATE].length < STATE || l[FEED_LENGTH].length == 0 || l[FEED_PERCENT].length == 0)
+        if (l[FEED_STATE].length < STATE)
             return 8;
         return bad_state(c->state) ? 10 : scant != 0 ? scant : l[FEED_SOFT].length < SYMBOL ? 9 : 0;
     default: return ANY;
@@ -580,6 +580,21 @@ static void one(int function, int scant) {
     done(&c);
 }
 
+/* A state of eighteen symbols, or a sound one, and no place for the answer: 10, or else 8. */
+static void no_places(void) {
+    Call c;
+    uint64_t state[STATE];
+    Description d = small_one();
+    draw_state(state, &d, false);
+    if (one_in(2))
+        state[0] = 18;
+    draw(&c, FEED_SYMBOL, &d, state, NONE);
+    c.lent[FEED_LENGTH].length = c.lent[FEED_PERCENT].length = 0;
+    c.expected = answer_of(&c);
+    make(&c);
+    done(&c);
+}
+
 /* What a receiver hands on from call to call. */
 typedef struct {
     Description d;
@@ -704,6 +719,8 @@ int main(int argc, char **argv) {
             for (int i = 0; i < functions[f].buffers; i++)
                 one(f, i);
         }
+        no_places();
+        no_places();
         receive();
     }
     int idle = 0;

@@ -32,7 +32,7 @@ static const char *meaning(uint8_t number) {
         "the size is not what the protection needs",
         "EEP bit rate no multiple of 8 (option 0) or 32 (option 1)",
         "start plus size above 864",
-        "a lent buffer is too short",
+        "a buffer is too short",
         "a symbol under 3,072 values",
         "the state is none that set-up leaves",
         "more values than are taken",

@@ -2,11 +2,12 @@
  *
  * Link target/staticlib/libfeltcomet.a, which `rt staticlib feltcomet` proves and writes.
  *
- * Every function takes every input, judges it itself and returns. A slice is a pointer and then a length in elements; a length of 0 may go
- * with any pointer that is not null. Lent buffers must not overlap each other: the proofs are of a language in which they cannot.
+ * Every function takes every input, judges it itself and returns. A slice is a pointer and then a length in elements, named after it; a
+ * length of 0 may go with any pointer that is not null. The caller's buffers must not overlap each other: the proofs are of a language in
+ * which they cannot.
  *
  * A function that can turn the caller away returns 0 where it is done and else the number of the first refusal below that holds, in the
- * order that stands with the function. After a refusal all lent memory is as it was. Lent memory beyond the need is never touched.
+ * order that stands with the function. After a refusal all buffers are as they were. A buffer beyond what is needed is never touched.
  *
  *    1  EEP option above 1
  *    2  EEP level above 3
@@ -15,7 +16,7 @@
  *    5  EEP: the size differs from what is needed; UEP: it is less, or over by more than 8 values
  *    6  EEP bit rate no multiple of 8 (option 0) or 32 (option 1)
  *    7  start plus size above 864 units
- *    8  a lent buffer shorter than its room
+ *    8  a buffer shorter than needed
  *    9  a symbol under 3,072 values
  *   10  a state with symbols above 17, CIF in frame above 3, ring index above 15, count above 17, or a description refused by 1 to 7
  *   11  a FIC symbol over 3,072 values, or decoder input over 65,536 whole steps
@@ -45,13 +46,13 @@ extern "C" {
 
 /* Energy dispersal, clause 10: xors each value with its bit of the sequence, which begins anew at each call. The same function scrambles
  * and undoes it. Any length, any values. */
-void feltcomet_energy_dispersal(uint8_t *bits, size_t length);
+void feltcomet_energy_dispersal(uint8_t *bits, size_t bits_length);
 
 /* Whether the first 32 bytes are a FIB with a good CRC (clause 5.2.1, annex E). Under 32 bytes: no. */
-bool feltcomet_fib_crc_valid(const uint8_t *fib, size_t length);
+bool feltcomet_fib_crc_valid(const uint8_t *fib, size_t fib_length);
 
 /* Whether these are the 256 zeros and ones, high bits first, of a FIB with a good CRC. Any other length or value: no. */
-bool feltcomet_check_crc_bits(const uint8_t *bits, size_t length);
+bool feltcomet_check_crc_bits(const uint8_t *bits, size_t bits_length);
 
 /* Whether a receiver takes the description: 0, or its first refusal of 1 to 7 (UEP: 4, 5, 7). */
 uint8_t feltcomet_judge(uint16_t start_addr, uint16_t sub_size, uint16_t bitrate, uint8_t protection_level, uint8_t eep_option,
@@ -60,15 +61,15 @@ uint8_t feltcomet_judge(uint16_t start_addr, uint16_t sub_size, uint16_t bitrate
 /* The protection profile of a description, whatever its place and size: row[0] to row[3] are the blocks of its four regions, row[4] to
  * row[7] their puncturing vectors PI counted from 0, and 24 where a region is empty. Refusals 1 to 4, then 8 under eight places. */
 uint8_t feltcomet_profile(uint16_t start_addr, uint16_t sub_size, uint16_t bitrate, uint8_t protection_level, uint8_t eep_option,
-                          uint32_t is_eep, uint64_t *row, size_t length);
+                          uint32_t is_eep, uint64_t *row, size_t row_length);
 
 /* How many values the profile of a description sends, into size[0]. Refusals 1 to 4, then 8 with no place. */
 uint8_t feltcomet_needed_size(uint16_t start_addr, uint16_t sub_size, uint16_t bitrate, uint8_t protection_level, uint8_t eep_option,
-                              uint32_t is_eep, uint64_t *size, size_t length);
+                              uint32_t is_eep, uint64_t *size, size_t size_length);
 
 /* How many values they become when depunctured, into size[0]. Refusals 1 to 4, then 8 with no place. */
 uint8_t feltcomet_depunctured_size(uint16_t start_addr, uint16_t sub_size, uint16_t bitrate, uint8_t protection_level, uint8_t eep_option,
-                                   uint32_t is_eep, uint64_t *size, size_t length);
+                                   uint32_t is_eep, uint64_t *size, size_t size_length);
 
 /* Depunctures a sub-channel's values into the first 96 x bitrate + 24 places of out: 0 in each place that is not sent, and where the
  * input is short; surplus input is not read. Refusals 1 to 7, then 8. */
@@ -92,7 +93,7 @@ uint8_t feltcomet_viterbi_decode_with_metric(const int8_t *soft, size_t soft_len
  * depunctured, decoded, dispersed afresh and cut into three FIBs; those with a good CRC are written into fibs one after another, 32 bytes
  * each. counts[0] gets how many in all and counts[1] to counts[4] how many of each of four blocks; metrics[0] to metrics[3] the metric and
  * metrics[4] to metrics[7] the sum of absolute depunctured values of each; percents[0] to percents[3] the percentage; all 0 for a block
- * that is not there. Room, even with no whole block: 3,096 depunctured, 774 words and 774 bits; 96 fibs for each whole block; 5 counts,
+ * that is not there. Needed, even with no whole block: 3,096 depunctured, 774 words and 774 bits; 96 fibs for each whole block; 5 counts,
  * 8 metrics, 4 percents. Refusal 11, then 8. */
 uint8_t feltcomet_process_fic(const int8_t *first, size_t first_length, const int8_t *second, size_t second_length, const int8_t *third,
                               size_t third_length, int8_t *depunctured, size_t depunctured_length, uint64_t *words, size_t words_length,
@@ -110,20 +111,23 @@ uint8_t feltcomet_process_fic(const int8_t *first, size_t first_length, const in
  * is refusal 10, as a bad state is. */
 
 /* A new state for a description, and the ring's need, 1,024 x sub_size values, filled with zeros. Refusals 1 to 7, then 8 where the ring is
- * short or the state has fewer than eleven places. */
+ * short or the state has fewer than eleven numbers. */
 uint8_t feltcomet_set_up(uint16_t start_addr, uint16_t sub_size, uint16_t bitrate, uint8_t protection_level, uint8_t eep_option,
                          uint32_t is_eep, int8_t *ring, size_t ring_length, uint64_t *state, size_t state_length);
 
 /* The state of a new set-up with the same description, and the ring's need filled with zeros. Refusal 8 where the state has fewer than
- * eleven places, then 10, then 8 where the ring is short. */
+ * eleven numbers, then 10, then 8 where the ring is short. */
 uint8_t feltcomet_reset(uint64_t *state, size_t state_length, int8_t *ring, size_t ring_length);
 
 /* Takes a symbol: its first 3,072 soft values go into the CIF store, and the eighteenth makes a CIF. A whole CIF goes through the ring, and
  * from the seventeenth since set-up or reset on it gives a frame. The state is written anew. length[0] gets 0 while no frame is given, and
  * else the frame's bytes, 3 x bitrate; then percent[0] gets its percentage, and else it is not touched. The CIF store and the ring are handed
- * on untouched from call to call; the other buffers hold nothing between calls.
- * Room at every call: cif 55,296; ring 1,024 x sub_size; deinterleaved 64 x sub_size; depunctured 96 x bitrate + 24; words and bits
- * 24 x bitrate + 6 each; frame 3 x bitrate. Refusal 8 where the state has fewer than eleven places, or length or percent none; then 10, 8, 9. */
+ * on untouched from call to call; the other buffers hold nothing between calls. A UEP frame is decoded as feltcomet_viterbi_decode_state0
+ * does, an EEP frame as feltcomet_viterbi_decode_with_metric does, with every end permitted: the zero tail that is sent goes unused there,
+ * which in noise costs frames that the other decoder would give (docs/DIFFERENCES.md has a count).
+ * Needed at every call: cif 55,296; ring 1,024 x sub_size; deinterleaved 64 x sub_size; depunctured 96 x bitrate + 24; words and bits
+ * 24 x bitrate + 6 each; frame 3 x bitrate; length and percent 1 each. Refusal 8 where the state has fewer than eleven numbers, since no
+ * state can be read of them; then 10; then 8 where another buffer is shorter than needed; then 9. */
 uint8_t feltcomet_feed_symbol(uint64_t *state, size_t state_length, const int8_t *soft, size_t soft_length, int8_t *cif, size_t cif_length,
                               int8_t *ring, size_t ring_length, int8_t *deinterleaved, size_t deinterleaved_length, int8_t *depunctured,
                               size_t depunctured_length, uint64_t *words, size_t words_length, uint8_t *bits, size_t bits_length,

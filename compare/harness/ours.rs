@@ -5,7 +5,7 @@
 
 use crate::description::Description;
 use crate::lent::{Answer, Lent};
-use crate::stores::{FicStores, Percent, Rooms, Stores, alike};
+use crate::stores::{FicStores, Percent, Places, Stores, alike};
 use crate::tally::Outcome;
 
 // A line for each, as the header has them.
@@ -204,28 +204,28 @@ impl Receiver {
         self.percent.refill(&stores.percent);
     }
 
-    /// `rooms` is how many places of each are lent, of those that are there.
-    pub fn set_up(&mut self, d: &Description, rooms: &Rooms) -> u8 {
+    /// `places` is how many places of each are handed over, of those that are there.
+    pub fn set_up(&mut self, d: &Description, places: &Places) -> u8 {
         let (rate, level, option) = (d.bitrate, d.protection_level, d.eep_option);
         let (ring, state) = (self.ring.as_mut_ptr(), self.state.as_mut_ptr());
-        let (nr, ns) = (rooms[2], rooms[0]);
+        let (nr, ns) = (places[2], places[0]);
         unsafe { feltcomet_set_up(d.start_addr, d.sub_size, rate, level, option, d.is_eep, ring, nr, state, ns) }
     }
 
-    pub fn reset(&mut self, rooms: &Rooms) -> u8 {
-        unsafe { feltcomet_reset(self.state.as_mut_ptr(), rooms[0], self.ring.as_mut_ptr(), rooms[2]) }
+    pub fn reset(&mut self, places: &Places) -> u8 {
+        unsafe { feltcomet_reset(self.state.as_mut_ptr(), places[0], self.ring.as_mut_ptr(), places[2]) }
     }
 
-    pub fn feed(&mut self, soft: &[i8], rooms: &Rooms) -> Answer<u8> {
+    pub fn feed(&mut self, soft: &[i8], places: &Places) -> Answer<u8> {
         let soft = Lent::new(soft, 0x5A);
         #[rustfmt::skip]
         let number = unsafe {
             feltcomet_feed_symbol(
-                self.state.as_mut_ptr(), rooms[0], soft.as_ptr(), soft.len(), self.cif.as_mut_ptr(), rooms[1],
-                self.ring.as_mut_ptr(), rooms[2], self.deinterleaved.as_mut_ptr(), rooms[3],
-                self.depunctured.as_mut_ptr(), rooms[4], self.words.as_mut_ptr(), rooms[5],
-                self.bits.as_mut_ptr(), rooms[6], self.frame.as_mut_ptr(), rooms[7],
-                self.length.as_mut_ptr(), rooms[8], self.percent.as_mut_ptr().cast(), rooms[9],
+                self.state.as_mut_ptr(), places[0], soft.as_ptr(), soft.len(), self.cif.as_mut_ptr(), places[1],
+                self.ring.as_mut_ptr(), places[2], self.deinterleaved.as_mut_ptr(), places[3],
+                self.depunctured.as_mut_ptr(), places[4], self.words.as_mut_ptr(), places[5],
+                self.bits.as_mut_ptr(), places[6], self.frame.as_mut_ptr(), places[7],
+                self.length.as_mut_ptr(), places[8], self.percent.as_mut_ptr().cast(), places[9],
             )
         };
         soft.unwritten()?;

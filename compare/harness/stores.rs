@@ -45,19 +45,19 @@ pub struct FicStores {
 }
 
 /// Places of depunctured, words, bits, fibs, counts, metrics and percents.
-pub type FicRooms = [usize; 7];
+pub type FicPlaces = [usize; 7];
 
 impl FicStores {
     /// Filled with what no answer has.
-    pub fn new(rooms: FicRooms) -> Self {
+    pub fn new(places: FicPlaces) -> Self {
         Self {
-            depunctured: pattern(rooms[0]),
-            words: vec![!0 / 3; rooms[1]],
-            bits: vec![7; rooms[2]],
-            fibs: (0..rooms[3]).map(|i| (i % 251) as u8 + 1).collect(),
-            counts: vec![77; rooms[4]],
-            metrics: vec![i32::MIN; rooms[5]],
-            percents: vec![Percent(-777.5); rooms[6]],
+            depunctured: pattern(places[0]),
+            words: vec![!0 / 3; places[1]],
+            bits: vec![7; places[2]],
+            fibs: (0..places[3]).map(|i| (i % 251) as u8 + 1).collect(),
+            counts: vec![77; places[4]],
+            metrics: vec![i32::MIN; places[5]],
+            percents: vec![Percent(-777.5); places[6]],
         }
     }
 
@@ -88,9 +88,9 @@ pub struct Stores {
 }
 
 /// Places of each in that order; a call may be lent fewer than there are.
-pub type Rooms = [usize; 10];
+pub type Places = [usize; 10];
 
-pub const ROOM_NAMES: [&str; 10] =
+pub const BUFFERS: [&str; 10] =
     ["state", "cif", "ring", "deinterleaved", "depunctured", "words", "bits", "frame", "length", "percent"];
 
 pub const STATE: usize = 0;
@@ -98,8 +98,8 @@ pub const RING: usize = 2;
 pub const LENGTH: usize = 8;
 pub const PERCENT: usize = 9;
 
-/// What feeding needs: document 01, "Room", and the places that the header names.
-pub fn needs(d: &Description) -> Rooms {
+/// What feeding needs: document 01, "Room" (its word for needed lengths), and the places that the header names.
+pub fn needs(d: &Description) -> Places {
     let (size, rate) = (usize::from(d.sub_size), usize::from(d.bitrate));
     let steps = 24 * rate + 6;
     [11, 55_296, 1_024 * size, 64 * size, 96 * rate + 24, steps, steps, 3 * rate, 1, 1]
@@ -107,22 +107,22 @@ pub fn needs(d: &Description) -> Rooms {
 
 impl Stores {
     /// Filled with what no answer has, or what would show if it were taken for one.
-    pub fn new(rooms: Rooms) -> Self {
+    pub fn new(places: Places) -> Self {
         Self {
-            state: (0..rooms[0] as u64).map(|i| !i).collect(),
-            cif: pattern(rooms[1]),
-            ring: pattern(rooms[2]),
-            deinterleaved: pattern(rooms[3]),
-            depunctured: pattern(rooms[4]),
-            words: vec![!0 / 3; rooms[5]],
-            bits: vec![7; rooms[6]],
-            frame: (0..rooms[7]).map(|i| (i % 251) as u8 + 1).collect(),
-            length: vec![77; rooms[8]],
-            percent: vec![Percent(-777.5); rooms[9]],
+            state: (0..places[0] as u64).map(|i| !i).collect(),
+            cif: pattern(places[1]),
+            ring: pattern(places[2]),
+            deinterleaved: pattern(places[3]),
+            depunctured: pattern(places[4]),
+            words: vec![!0 / 3; places[5]],
+            bits: vec![7; places[6]],
+            frame: (0..places[7]).map(|i| (i % 251) as u8 + 1).collect(),
+            length: vec![77; places[8]],
+            percent: vec![Percent(-777.5); places[9]],
         }
     }
 
-    pub fn rooms(&self) -> Rooms {
+    pub fn places(&self) -> Places {
         let values = [self.cif.len(), self.ring.len(), self.deinterleaved.len(), self.depunctured.len()];
         let [cif, ring, deinterleaved, depunctured] = values;
         let (words, bits, frame) = (self.words.len(), self.bits.len(), self.frame.len());

@@ -70,7 +70,7 @@ fn eep(run: &Run, random: &mut Random, tally: &mut Tally) -> Outcome {
             }
         }
     }
-    // The Rust makes room for sixteen of these, so few.
+    // The Rust allocates sixteen of these, so few.
     for _ in 0..run.times(30, 300) {
         let d = Description::eep(random.below(2) as u8, random.below(4) as u8, random.next() as u16);
         one(&fitted(d).unwrap_or(d).flagged(random), tally)?;

@@ -54,17 +54,17 @@ fn one(d: &Description, lookup: &Lookup, random: &mut Random, tally: &mut Tally)
     let d = d.anywhere(random);
     let rust = Protection::of(&d).map(|p| (lookup.rust)(&p));
     let needed = if lookup.name == "profile" { 8 } else { 1 };
-    let room = if random.one_in(4) { random.below(needed + 6) } else { needed };
-    let before: Vec<u64> = (0..room as u64).map(|i| !i).collect();
+    let places = if random.one_in(4) { random.below(needed + 6) } else { needed };
+    let before: Vec<u64> = (0..places as u64).map(|i| !i).collect();
 
     let number = protection::lookup(&d);
     same(["the model", "the Rust"], number == 0, rust.is_some(), || format!("{d:?}"))?;
     let mut after = before.clone();
-    let short = number == 0 && room < needed;
+    let short = number == 0 && places < needed;
     if let Some(values) = rust.filter(|_| !short) {
         after[..needed].copy_from_slice(&values);
     }
-    let (number, input) = (if short { 8 } else { number }, || format!("{d:?}, {room} places lent"));
+    let (number, input) = (if short { 8 } else { number }, || format!("{d:?}, {places} places lent"));
     let ours = (lookup.ours)(&d, &before);
     if short { tally.model(Ok((8, after)), ours, input) } else { tally.rust(Ok((number, after)), ours, input) }
 }

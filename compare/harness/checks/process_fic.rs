@@ -6,7 +6,7 @@ use crate::model::fic;
 use crate::random::Random;
 use crate::samples::received;
 use crate::sender;
-use crate::stores::{FicRooms, FicStores};
+use crate::stores::{FicPlaces, FicStores};
 use crate::tally::{Outcome, Tally, same, short};
 use crate::theirs::Logged;
 use crate::{ours, theirs};
@@ -97,8 +97,8 @@ fn sent(random: &mut Random) -> Vec<u8> {
     sender::fic_block(&fibs)
 }
 
-/// Exactly enough room most times, else some to spare.
-fn rooms(blocks: usize, random: &mut Random) -> FicRooms {
+/// Exactly the needed lengths most times, else some places to spare.
+fn places(blocks: usize, random: &mut Random) -> FicPlaces {
     let needs = [3_096, 774, 774, 96 * blocks, 5, 8, 4];
     if random.one_in(2) { needs } else { needs.map(|need| need + random.below(4) * random.below(20)) }
 }
@@ -107,7 +107,7 @@ fn one(lengths: [usize; 3], random: &mut Random, tally: &mut Tally) -> Outcome {
     let symbols = symbols(lengths, random);
     let symbols = [&symbols[0][..], &symbols[1][..], &symbols[2][..]];
     let blocks = lengths.iter().sum::<usize>() / 2_304;
-    let before = FicStores::new(rooms(blocks, random));
+    let before = FicStores::new(places(blocks, random));
     held(symbols, &before, tally)
 }
 
@@ -137,11 +137,11 @@ pub fn held(symbols: [&[i8]; 3], before: &FicStores, tally: &mut Tally) -> Outco
 
 /// 11 before 8; nothing is written. The Rust knows neither.
 fn refusals(run: &Run, random: &mut Random, tally: &mut Tally) -> Outcome {
-    let mut refused = |lengths: [usize; 3], rooms: FicRooms, number: u8, random: &mut Random| {
+    let mut refused = |lengths: [usize; 3], places: FicPlaces, number: u8, random: &mut Random| {
         let symbols = lengths.map(|length| random.soft(length));
         let symbols = [&symbols[0][..], &symbols[1][..], &symbols[2][..]];
-        let before = FicStores::new(rooms);
-        let input = || format!("symbols of {lengths:?} values, rooms {rooms:?}");
+        let before = FicStores::new(places);
+        let input = || format!("symbols of {lengths:?} values, places {places:?}");
         let told = fic::process(symbols, &before).0;
         same(["document 01", "the model"], number, told, input)?;
         let (ours, after) = ours::process_fic(symbols, &before).map_err(|why| format!("{}\n  {why}", input()))?;
@@ -149,7 +149,7 @@ fn refusals(run: &Run, random: &mut Random, tally: &mut Tally) -> Outcome {
         tally.model(number, ours, input)?;
         before.alike(&after).map_err(|why| format!("{}, refused with {number}\n  {why}", input()))
     };
-    let full: FicRooms = [9_216, 3_000, 3_000, 3_000, 5, 8, 4];
+    let full: FicPlaces = [9_216, 3_000, 3_000, 3_000, 5, 8, 4];
     for long in [3_073, 3_074, 3_584, 4_608, 9_216, 65_536, 65_537, 68_608] {
         for place in 0..3 {
             for others in [0, 2_304, 3_072] {
@@ -157,9 +157,9 @@ fn refusals(run: &Run, random: &mut Random, tally: &mut Tally) -> Outcome {
                 lengths[place] = long;
                 refused(lengths, full, 11, random)?;
                 refused(lengths, [0; 7], 11, random)?;
-                let mut rooms = full;
-                rooms[random.below(7)] = 0;
-                refused(lengths, rooms, 11, random)?;
+                let mut places = full;
+                places[random.below(7)] = 0;
+                refused(lengths, places, 11, random)?;
             }
         }
     }
@@ -168,10 +168,10 @@ fn refusals(run: &Run, random: &mut Random, tally: &mut Tally) -> Outcome {
         let blocks = lengths.iter().sum::<usize>() / 2_304;
         let needs = [3_096, 774, 774, 96 * blocks, 5, 8, 4];
         for place in (0..7).filter(|place| needs[*place] > 0) {
-            for room in [needs[place] - 1, random.below(needs[place]), 0] {
-                let mut rooms = needs;
-                rooms[place] = room;
-                refused(lengths, rooms, 8, random)?;
+            for count in [needs[place] - 1, random.below(needs[place]), 0] {
+                let mut places = needs;
+                places[place] = count;
+                refused(lengths, places, 8, random)?;
             }
         }
     }

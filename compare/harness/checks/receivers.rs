@@ -4,20 +4,20 @@ use crate::description::Description;
 use crate::model::quality;
 use crate::model::receiver::{self, FRAMES};
 use crate::random::Random;
-use crate::stores::{RING, Rooms, STATE, Stores, needs};
+use crate::stores::{Places, RING, STATE, Stores, needs};
 use crate::tally::{Outcome, same};
 use crate::{ours, theirs};
 
 pub struct Receivers {
     pub d: Description,
-    rooms: Rooms,
+    places: Places,
     rust: theirs::Receiver,
     ours: ours::Receiver,
     pub model: Stores,
 }
 
 /// Exactly what feeding needs most times, else some places more.
-pub fn rooms(d: &Description, random: &mut Random) -> Rooms {
+pub fn places(d: &Description, random: &mut Random) -> Places {
     let needs = needs(d);
     if random.one_in(2) { needs } else { needs.map(|need| need + random.below(3) * random.below(30)) }
 }
@@ -25,11 +25,11 @@ pub fn rooms(d: &Description, random: &mut Random) -> Rooms {
 impl Receivers {
     /// A description that is accepted, set up in memory that held something else.
     pub fn set_up(d: &Description, random: &mut Random) -> Result<Self, String> {
-        let rooms = rooms(d, random);
-        let model = Stores::new(rooms);
+        let places = places(d, random);
+        let model = Stores::new(places);
         let ours = ours::Receiver::new(&model);
         let rust = theirs::Receiver::new(d).ok_or("refused by the Rust")?;
-        let mut receivers = Self { d: *d, rooms, rust, ours, model };
+        let mut receivers = Self { d: *d, places, rust, ours, model };
         receivers.again(d)?;
         Ok(receivers)
     }
@@ -38,23 +38,23 @@ impl Receivers {
     pub fn again(&mut self, d: &Description) -> Outcome {
         self.d = *d;
         self.rust = theirs::Receiver::new(d).ok_or("refused by the Rust")?;
-        let number = receiver::set_up(d, &mut self.model, &self.rooms);
-        same(["the model", "ours"], number, self.ours.set_up(d, &self.rooms), || "set-up".to_string())?;
+        let number = receiver::set_up(d, &mut self.model, &self.places);
+        same(["the model", "ours"], number, self.ours.set_up(d, &self.places), || "set-up".to_string())?;
         self.ours.alike(&self.model)
     }
 
     pub fn reset(&mut self) -> Outcome {
         self.rust.reset();
-        let number = receiver::reset(&mut self.model, &self.rooms);
-        same(["the model", "ours"], number, self.ours.reset(&self.rooms), || "reset".to_string())?;
+        let number = receiver::reset(&mut self.model, &self.places);
+        same(["the model", "ours"], number, self.ours.reset(&self.places), || "reset".to_string())?;
         self.ours.alike(&self.model)
     }
 
     /// A symbol to all three: the frame, if this gives one; every lent byte is seen to.
     pub fn feed(&mut self, soft: &[i8]) -> Result<Option<Vec<u8>>, String> {
         let input = || format!("a symbol of {} values", soft.len());
-        let number = receiver::feed(&mut self.model, soft, &self.rooms);
-        same(["the model", "ours"], number, self.ours.feed(soft, &self.rooms)?, input)?;
+        let number = receiver::feed(&mut self.model, soft, &self.places);
+        same(["the model", "ours"], number, self.ours.feed(soft, &self.places)?, input)?;
         self.ours.alike(&self.model)?;
 
         let length = if number == 0 { self.model.length[0] as usize } else { 0 };
@@ -71,20 +71,20 @@ impl Receivers {
         Ok(frame)
     }
 
-    /// A call of ours with other rooms that must be refused and change nothing.
-    pub fn refused(&mut self, soft: &[i8], rooms: &Rooms, number: u8) -> Outcome {
-        let input = || format!("a symbol of {} values, rooms {rooms:?}", soft.len());
-        let told = receiver::feed(&mut self.model, soft, rooms);
+    /// A call of ours with other lengths that must be refused and change nothing.
+    pub fn refused(&mut self, soft: &[i8], places: &Places, number: u8) -> Outcome {
+        let input = || format!("a symbol of {} values, places {places:?}", soft.len());
+        let told = receiver::feed(&mut self.model, soft, places);
         same(["document 01", "the model"], number, told, input)?;
-        same(["the model", "ours"], number, self.ours.feed(soft, rooms)?, input)?;
+        same(["the model", "ours"], number, self.ours.feed(soft, places)?, input)?;
         self.ours.alike(&self.model)
     }
 
     /// Feeding with another state, to be refused with `number`. The state is then as it was.
-    pub fn refused_state(&mut self, state: &[u64; 11], soft: &[i8], rooms: &Rooms, number: u8) -> Outcome {
+    pub fn refused_state(&mut self, state: &[u64; 11], soft: &[i8], places: &Places, number: u8) -> Outcome {
         let good = self.model.state.clone();
         self.put(state, &[]);
-        self.refused(soft, rooms, number).map_err(|why| format!("state {state:?}: {why}"))?;
+        self.refused(soft, places, number).map_err(|why| format!("state {state:?}: {why}"))?;
         self.model.state = good;
         self.ours.refill(&self.model);
         Ok(())
@@ -92,7 +92,7 @@ impl Receivers {
 
     /// Other contents in all that is not handed on from call to call.
     pub fn disturb(&mut self, random: &mut Random) {
-        let fresh = Stores::new(self.model.rooms());
+        let fresh = Stores::new(self.model.places());
         let (state, cif, ring) = (self.model.state.clone(), self.model.cif.clone(), self.model.ring.clone());
         self.model = Stores { state, cif, ring, ..fresh };
         let word = random.next();
@@ -112,21 +112,21 @@ impl Receivers {
 
     /// One call of ours against the model alone.
     pub fn feed_without_rust(&mut self, soft: &[i8]) -> Outcome {
-        let number = receiver::feed(&mut self.model, soft, &self.rooms);
+        let number = receiver::feed(&mut self.model, soft, &self.places);
         let input = || format!("a symbol of {} values", soft.len());
-        same(["the model", "ours"], number, self.ours.feed(soft, &self.rooms)?, input)?;
+        same(["the model", "ours"], number, self.ours.feed(soft, &self.places)?, input)?;
         self.ours.alike(&self.model)
     }
 
-    pub fn reset_without_rust(&mut self, rooms: &Rooms) -> Result<u8, String> {
-        let number = receiver::reset(&mut self.model, rooms);
-        let input = || format!("reset, {} places of state and {} of ring lent", rooms[STATE], rooms[RING]);
-        same(["the model", "ours"], number, self.ours.reset(rooms), input)?;
+    pub fn reset_without_rust(&mut self, places: &Places) -> Result<u8, String> {
+        let number = receiver::reset(&mut self.model, places);
+        let input = || format!("reset, {} places of state and {} of ring lent", places[STATE], places[RING]);
+        same(["the model", "ours"], number, self.ours.reset(places), input)?;
         self.ours.alike(&self.model)?;
         Ok(number)
     }
 
-    pub fn rooms(&self) -> Rooms {
-        self.rooms
+    pub fn places(&self) -> Places {
+        self.places
     }
 }

@@ -53,22 +53,22 @@ fn after(d: &Description, symbols: usize, random: &mut Random, tally: &mut Tally
 
 fn from_any_state(d: &Description, random: &mut Random, tally: &mut Tally) -> Outcome {
     let mut receivers = Receivers::set_up(d, random)?;
-    let (needs, full) = (needs(d), receivers.rooms());
+    let (needs, full) = (needs(d), receivers.places());
     let ring = random.soft(needs[RING]);
     let state = any_good_state(d, random);
     let bad = bad_states(&state, random);
-    let mut call = |state: &[u64; 11], state_room: usize, ring_room: usize, number: u8| {
+    let mut call = |state: &[u64; 11], state_places: usize, ring_places: usize, number: u8| {
         receivers.put(state, &ring);
-        let mut rooms = full;
-        (rooms[STATE], rooms[RING]) = (state_room, ring_room);
+        let mut places = full;
+        (places[STATE], places[RING]) = (state_places, ring_places);
         tally.modelled += 1;
-        let told = receivers.reset_without_rust(&rooms).map_err(|why| format!("state {state:?}: {why}"))?;
+        let told = receivers.reset_without_rust(&places).map_err(|why| format!("state {state:?}: {why}"))?;
         same(["document 01", "the model and ours"], number, told, || format!("reset of {state:?}"))
     };
     call(&state, 11, needs[RING], 0)?;
     call(&state, full[STATE], full[RING], 0)?;
-    for ring_room in [needs[RING] - 1, 0] {
-        call(&state, 11, ring_room, 8)?;
+    for ring_places in [needs[RING] - 1, 0] {
+        call(&state, 11, ring_places, 8)?;
     }
     call(&state, 10, full[RING], 8)?;
     for _ in 0..4 {

@@ -3,12 +3,12 @@
 
 use super::Run;
 use super::judge::likely;
-use super::receivers::rooms;
+use super::receivers::places;
 use crate::description::Description;
 use crate::model::receiver;
 use crate::random::Random;
 use crate::samples::{anywhere_in_cif, fitted, shapes};
-use crate::stores::{RING, Rooms, STATE, Stores, needs};
+use crate::stores::{Places, RING, STATE, Stores, needs};
 use crate::tally::{Outcome, Tally, same};
 use crate::{ours, theirs};
 
@@ -16,12 +16,12 @@ pub fn compare(run: &Run, tally: &mut Tally) -> Outcome {
     let mut random = run.random("set_up");
     for d in shapes() {
         let d = anywhere_in_cif(&d, &mut random);
-        let (exact, other) = (needs(&d), rooms(&d, &mut random));
+        let (exact, other) = (needs(&d), places(&d, &mut random));
         one(&d, &exact, tally)?;
         one(&d, &other, tally)?;
-        for (place, room) in [(RING, exact[RING] - 1), (RING, 0), (STATE, 10), (STATE, 0)] {
+        for (place, count) in [(RING, exact[RING] - 1), (RING, 0), (STATE, 10), (STATE, 0)] {
             let mut short = exact;
-            short[place] = room;
+            short[place] = count;
             one(&d, &short, tally)?;
         }
         one(&d.at(865 - d.sub_size), &exact, tally)?;
@@ -37,14 +37,14 @@ pub fn compare(run: &Run, tally: &mut Tally) -> Outcome {
     never_a_frame(run, &mut random, tally)
 }
 
-fn one(d: &Description, rooms: &Rooms, tally: &mut Tally) -> Outcome {
-    let input = || format!("{d:?}, {} places of state and {} of ring lent", rooms[STATE], rooms[RING]);
+fn one(d: &Description, places: &Places, tally: &mut Tally) -> Outcome {
+    let input = || format!("{d:?}, {} places of state and {} of ring lent", places[STATE], places[RING]);
     let told = |why: String| format!("{}: {why}", input());
-    let before = Stores::new(*rooms);
+    let before = Stores::new(*places);
     let (mut model, mut ours) = (before.clone(), ours::Receiver::new(&before));
-    let number = receiver::set_up(d, &mut model, rooms);
+    let number = receiver::set_up(d, &mut model, places);
     same(["the model", "the Rust"], !(1..=5).contains(&number), theirs::accepts(d), input)?;
-    let answer = ours.set_up(d, rooms);
+    let answer = ours.set_up(d, places);
     if number > 5 {
         tally.listed += u64::from(number < 8);
         tally.model(number, answer, input)?;

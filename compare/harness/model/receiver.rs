@@ -7,7 +7,7 @@ use super::quality::{percent, sum};
 use super::trellis::Trellis;
 use crate::description::Description;
 use crate::sender::{dispersed, puncturing};
-use crate::stores::{LENGTH, PERCENT, RING, Rooms, STATE, Stores, needs};
+use crate::stores::{Places, RING, STATE, Stores, needs};
 
 /// The places of the state, as the header names them.
 pub const SYMBOLS: usize = 0;
@@ -20,13 +20,13 @@ pub const DESCRIPTION: usize = 5;
 const MAP: [usize; 16] = [0, 8, 4, 12, 2, 10, 6, 14, 1, 9, 5, 13, 3, 11, 7, 15];
 
 /// 1 to 7, then 8.
-pub fn set_up(d: &Description, stores: &mut Stores, rooms: &Rooms) -> u8 {
+pub fn set_up(d: &Description, stores: &mut Stores, places: &Places) -> u8 {
     let number = judge(d);
     if number != 0 {
         return number;
     }
     let needs = needs(d);
-    if rooms[RING] < needs[RING] || rooms[STATE] < needs[STATE] {
+    if places[RING] < needs[RING] || places[STATE] < needs[STATE] {
         return 8;
     }
     stores.ring[..needs[RING]].fill(0);
@@ -59,24 +59,24 @@ fn read(state: &[u64]) -> Option<Description> {
 }
 
 /// 8 for the state's own places, 10, then 8.
-pub fn reset(stores: &mut Stores, rooms: &Rooms) -> u8 {
-    if rooms[STATE] < 11 {
+pub fn reset(stores: &mut Stores, places: &Places) -> u8 {
+    if places[STATE] < 11 {
         return 8;
     }
     let Some(d) = read(&stores.state) else { return 10 };
-    if rooms[RING] < needs(&d)[RING] {
+    if places[RING] < needs(&d)[RING] {
         return 8;
     }
-    set_up(&d, stores, rooms)
+    set_up(&d, stores, places)
 }
 
-/// 8 for the places of state and answer, 10, then 8 for the rest, 9.
-pub fn feed(stores: &mut Stores, soft: &[i8], rooms: &Rooms) -> u8 {
-    if rooms[STATE] < 11 || rooms[LENGTH] < 1 || rooms[PERCENT] < 1 {
+/// 8 for a state that is too short to be read, 10, then 8 for any other buffer, the answer's two places among them, 9.
+pub fn feed(stores: &mut Stores, soft: &[i8], places: &Places) -> u8 {
+    if places[STATE] < 11 {
         return 8;
     }
     let Some(d) = read(&stores.state) else { return 10 };
-    if rooms.iter().zip(needs(&d)).any(|(room, need)| *room < need) {
+    if places.iter().zip(needs(&d)).any(|(count, need)| *count < need) {
         return 8;
     }
     if soft.len() < 3_072 {

@@ -1,6 +1,9 @@
 pub mod Accepting
 pub mod Agreement
 pub mod Frames
-pub mod Rates
-pub mod Stretches
-pub mod Symbols
+pub mod Fronts
+pub mod Histories
+pub mod Receivers
+pub mod Refused
+pub mod Slices
+pub mod Stream

@@ -1,36 +1,22 @@
--- Document 01, "Sender's model" and "What the receiver owes": what has come in, over calls of set-up, reset and feed on one state and its stores.
+-- Document 01, "What the receiver owes": calls of set-up, reset and feed on one state and its two stores, and what has come in by them.
 use mathlib.Core.Path.{_≡_}
 use mathlib.Core.List.{List, [], _∷_, _++_}
-use Prim.Native.Nat.{ℕ, _+_, _*_, _/_, _%_, _<_}
+use Prim.Native.Nat.{ℕ, _<_}
 use lib.ListN.{length, getD, take, drop}
 use lib.IntN.{ℤ}
-use lib.Ieee.{Float}
-use Rattle.laws.specs.Integers.{at}
-use Rattle.spec_trellis.specs.Clean.{Agrees}
-use Rattle.en300401.specs.Interleaving.{delay, symbolBits}
-use Rattle.en300401.specs.Puncturing.{keptSize}
+use Rattle.en300401.specs.Interleaving.{cifBits, cifSymbols}
 use Rattle.protection.specs.declared.Description.{Description}
 use Rattle.protection.specs.Answers.{judgedAs}
-use Rattle.protection.specs.Refusals.{profileOf}
 use Rattle.refusal.specs.Outcome.{gives, refuses}
 use Rattle.msc_handler.specs.declared.Fed.{Fed}
 use Rattle.msc_set_up.specs.declared.SetUp.{SetUp}
 use Rattle.msc_state.specs.declared.State.{State}
-use Rattle.msc_state.specs.States.{Roomy}
-use Rattle.msc_handler.specs.History.{symbolOf}
-use Rattle.msc_handler.specs.Promises.{Said, framed, Buffers, Turn, refuses as turns-away, gathers, completes, turnOf, FeedPromise}
+use Rattle.msc_state.specs.States.{ringRoom}
+use Rattle.msc_handler.specs.History.{symbolOf, Cif, BoardHolds, ChannelHolds}
+use Rattle.msc_handler.specs.Promises.{Buffers, Turn, gathers, completes, turnOf, FeedPromise}
 use Rattle.msc_set_up.specs.Promises.{SetUpPromise, ResetPromise}
-use Rattle.agreement.specs.Sender.{Sender, placeOf, cifBit}
 
--- a CIF as it came in: its symbols in order, of each the 3,072 values that are taken
-abbrev pub Cif : Type 0
-Cif = List (List ℤ)
-
--- value p of a CIF
-unfoldable pub valueAt : Cif → ℕ → ℤ
-valueAt cif p = at (getD cif (p / symbolBits) []) (p % symbolBits)
-
--- what a caller holds between calls and hands on untouched
+-- what a caller holds between calls
 pub record Held : Type 0 where
   pub state : State
   pub cif : List ℤ
@@ -38,6 +24,9 @@ pub record Held : Type 0 where
 
 abbrev pub held : State → List ℤ → List ℤ → Held
 held s c r = record { state = s; cif = c; ring = r }
+
+abbrev pub heldAfter : Fed → Buffers → Held
+heldAfter r b' = held (r .state) (b' .cif) (b' .ring)
 
 -- what has come in since the last accepted set-up or reset: the whole CIFs, the oldest first, and the symbols of the one begun
 pub record Came : Type 0 where
@@ -49,70 +38,41 @@ came cs b = record { cifs = cs; begun = b }
 
 -- what has come in after one more call: nothing more if it was refused; else its symbol, which may make a CIF whole
 abbrev pub after : Turn → List ℤ → Came → Came
-after (turns-away n) soft c = c
-after gathers soft c = came (c .cifs) (c .begun ++ (symbolOf soft ∷ []))
-after completes soft c = came (c .cifs ++ ((c .begun ++ (symbolOf soft ∷ [])) ∷ [])) []
+after (refuses n) soft c = c
+after (gives gathers) soft c = came (c .cifs) (c .begun ++ (symbolOf soft ∷ []))
+after (gives completes) soft c = came (c .cifs ++ ((c .begun ++ (symbolOf soft ∷ [])) ∷ [])) []
 
--- a feed call: any symbol; the state and the stores as they were held; the five work buffers of any length and content
-pub record HeldCall (h : Held) (soft : List ℤ) (b : Buffers) (r : Fed) (b' : Buffers) : Type 0 where
-  pub cif-kept : b .cif ≡ h .cif
-  pub ring-kept : b .ring ≡ h .ring
+-- a feed call: any symbol; the state as it was held, and the needed part of the two stores, 55,296 values and 1,024 × size.
+-- What lies behind that part, the stores' lengths and the five work buffers may be others at each call
+pub record HeldCall (d : Description) (h : Held) (soft : List ℤ) (b : Buffers) (r : Fed) (b' : Buffers) : Type 0 where
+  pub cif-kept : take cifBits (b .cif) ≡ take cifBits (h .cif)
+  pub ring-kept : take (ringRoom d) (b .ring) ≡ take (ringRoom d) (h .ring)
   pub promise : FeedPromise (h .state) soft b r b'
 
--- a refused call of one of the three: of any state or description, lent any front part of the stores; the caller goes on with what it held
-pub data RefusedCall (h : Held) : Held → Type 0 where
-  set-up-refused : (n k : ℕ) (d : Description) (r : SetUp) (ring' : List ℤ) → SetUpPromise d (take k (h .ring)) r ring' → judgedAs (r .answer) ≡ refuses n → RefusedCall h (held (h .state) (h .cif) (ring' ++ drop k (h .ring)))
-  reset-refused : (n k : ℕ) (s : State) (r : SetUp) (ring' : List ℤ) → ResetPromise s (take k (h .ring)) r ring' → judgedAs (r .answer) ≡ refuses n → RefusedCall h (held (h .state) (h .cif) (ring' ++ drop k (h .ring)))
-  feed-refused : (n j k : ℕ) (s : State) (soft : List ℤ) (b : Buffers) (r : Fed) (b' : Buffers) → b .cif ≡ take j (h .cif) → b .ring ≡ take k (h .ring) → FeedPromise s soft b r b' → turnOf s soft b ≡ turns-away n
-      → RefusedCall h (held (h .state) (b' .cif ++ drop j (h .cif)) (b' .ring ++ drop k (h .ring)))
+-- a refused call may be handed less: a buffer whose needed part is what was held as far as it goes
+abbrev pub FrontOf : {A : Type 0} → ℕ → List A → List A → Type 0
+FrontOf need given held = take need given ≡ take (length given) (take need held)
+
+-- the store after it: the buffer as the call left it, and behind it what was held
+abbrev pub leftIn : {A : Type 0} → List A → List A → List A
+leftIn given' held = given' ++ drop (length given') held
+
+-- a refused call of one of the three: of any state or description; the caller goes on with the state that it held and the stores as the call left them
+pub data RefusedCall (d : Description) (h : Held) : Held → Type 0 where
+  set-up-refused : (n : ℕ) (e : Description) (ring : List ℤ) (r : SetUp) (ring' : List ℤ) → FrontOf (ringRoom d) ring (h .ring) → SetUpPromise e ring r ring' → judgedAs (r .answer) ≡ refuses n → RefusedCall d h (held (h .state) (h .cif) (leftIn ring' (h .ring)))
+  reset-refused : (n : ℕ) (s : State) (ring : List ℤ) (r : SetUp) (ring' : List ℤ) → FrontOf (ringRoom d) ring (h .ring) → ResetPromise s ring r ring' → judgedAs (r .answer) ≡ refuses n → RefusedCall d h (held (h .state) (h .cif) (leftIn ring' (h .ring)))
+  feed-refused : (n : ℕ) (s : State) (soft : List ℤ) (b : Buffers) (r : Fed) (b' : Buffers) → FrontOf cifBits (b .cif) (h .cif) → FrontOf (ringRoom d) (b .ring) (h .ring) → FeedPromise s soft b r b' → turnOf s soft b ≡ refuses n
+      → RefusedCall d h (held (h .state) (leftIn (b' .cif) (h .cif)) (leftIn (b' .ring) (h .ring)))
 
 -- the calls since a description was set up, or any state that has it was reset: any number, in any order
 pub data History (d : Description) : Held → Came → Type 0 where
   set-up : (cif ring : List ℤ) (r : SetUp) (ring' : List ℤ) → SetUpPromise d ring r ring' → judgedAs (r .answer) ≡ gives tt → History d (held (r .state) cif ring') (came [] [])
   reset : (s : State) (cif ring : List ℤ) (r : SetUp) (ring' : List ℤ) → s .channel .description ≡ d → ResetPromise s ring r ring' → judgedAs (r .answer) ≡ gives tt → History d (held (r .state) cif ring') (came [] [])
-  refused : {h h' : Held} {c : Came} → History d h c → RefusedCall h h' → History d h' c
-  fed : {h : Held} {c : Came} (soft : List ℤ) (b : Buffers) (r : Fed) (b' : Buffers) → History d h c → HeldCall h soft b r b' → History d (held (r .state) (b' .cif) (b' .ring)) (after (turnOf (h .state) soft b) soft c)
+  refused : {h h' : Held} {c : Came} → History d h c → RefusedCall d h h' → History d h' c
+  fed : {h : Held} {c : Came} (soft : List ℤ) (b : Buffers) (r : Fed) (b' : Buffers) → History d h c → HeldCall d h soft b r b' → History d (heldAfter r b') (after (turnOf (h .state) soft b) soft c)
 
--- the sub-channel's kept values, those that stand for a bit of a code word: its first ones; padding may follow
-abbrev pub keptOf : Description → ℕ
-keptOf d = keptSize (profileOf d)
-
--- value i of the sub-channel in a CIF that came in is not 0 and of the sign of the bit that the sender's CIF r has at that place
-abbrev pub AgreesAt : (d : Description) → Sender d → ℕ → Cif → ℕ → Type 0
-AgreesAt d s r cif i = Agrees (valueAt cif (placeOf d i)) (cifBit d s r (placeOf d i))
-
--- CIF r of the sender has come in whole, as this CIF of the receiver's: each kept value agrees
-abbrev pub CameIn : (d : Description) → Sender d → ℕ → Cif → Type 0
-CameIn d s r cif = (i : ℕ) → i < keptOf d → AgreesAt d s r cif i
-
--- the last sixteen CIFs that came in, with no other between
-pub record LastSixteen (cifs : List Cif) : Type 0 where
-  pub earlier : List Cif
-  pub last : List Cif
-  pub split : cifs ≡ earlier ++ last
-  pub sixteen : length last ≡ 16
-
--- they are the sender's CIFs r to r + 15
-pub record WholeSixteen (d : Description) (s : Sender d) (r : ℕ) (cifs : List Cif) : Type 0 where
-  pub run : LastSixteen cifs
-  pub agree : (k : ℕ) → k < 16 → CameIn d s (r + k) (getD (run .last) k [])
-
--- they are so as far as frame r goes, whose bit i is in CIF r + delay i: no other value is asked to agree
-pub record Sixteen (d : Description) (s : Sender d) (r : ℕ) (cifs : List Cif) : Type 0 where
-  pub run : LastSixteen cifs
-  pub agree : (i : ℕ) → i < keptOf d → AgreesAt d s (r + delay i) (getD (run .last) (delay i) []) i
-
--- what is lent is long enough
-abbrev pub RoomIn : Description → Buffers → Type 0
-RoomIn d b = Roomy d (length (b .cif)) (length (b .ring)) (length (b .deinterleaved)) (length (b .depunctured)) (length (b .words)) (length (b .bits)) (length (b .frame))
-
--- a frame of these bytes is answered, and the frame buffer begins with them
-pub record Yields (d : Description) (frame : List ℕ) (said : Said) (b' : Buffers) : Type 0 where
-  pub percent : Float
-  pub answer : said ≡ framed (3 * d .bitrate) percent
-  pub bytes : take (3 * d .bitrate) (b' .frame) ≡ frame
-
--- one answer, and one frame at the front of the frame buffer
-pub record SameAnswer (d : Description) (said said₂ : Said) (b' b₂' : Buffers) : Type 0 where
-  pub said-one : said ≡ said₂
-  pub bytes-one : take (3 * d .bitrate) (b' .frame) ≡ take (3 * d .bitrate) (b₂' .frame)
+-- what is then held: each whole CIF is eighteen symbols; the board and the channel are as what came in says
+pub record Holds (d : Description) (c : Came) (h : Held) : Type 0 where
+  pub eighteen : (k : ℕ) → k < length (c .cifs) → length (getD (c .cifs) k []) ≡ cifSymbols
+  pub board : BoardHolds (length (c .cifs)) (c .begun) (h .state .symbols) (h .state .«cif_in_frame») (h .cif)
+  pub channel : ChannelHolds d (c .cifs) (h .state .channel) (h .ring)

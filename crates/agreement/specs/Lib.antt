@@ -1,2 +1,6 @@
+pub mod Answers
 pub mod Calls
-pub mod Sender
+pub mod Heard
+pub mod Receiver
+pub mod Stream
+pub mod Theorems

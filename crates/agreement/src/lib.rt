@@ -1,1 +1,1 @@
-// Proofs only: the sender's model, and that sender and receiver meet again after any loss.
+// Proofs only: sender and receiver meet again after any loss, over the calls of set-up, reset and feed.

@@ -1,4 +1,4 @@
--- Document 01's twelve cases hold.
+-- Document 01's twelve cases hold, and the run cases of descriptions.
 -- Assumes nothing.
 use mathlib.Core.Path.{refl}
 use mathlib.Core.List.{List, [], _∷_}
@@ -7,10 +7,12 @@ use lib.IntN.{ℤ, pos}
 use lib.Count.{ones}
 use Rattle.laws.specs.Lists.{listFrom}
 use Rattle.spec_trellis.specs.Trellis.{parity, outBit, signBy, branch, startScore, zeroEnd, freeEnd, Subtracted, none}
-use Rattle.spec_trellis.proofs.TrellisProgram.{lowWay, highWay, takes, acs, survivor, takesAt, predOf, startInto, bitsInto}
+use Rattle.spec_trellis.specs.Program.{lowWay, highWay, takes, acs, survivor, takesAt, predOf, startInto, bitsInto}
 use Rattle.en300401.proofs.Dispersal.{sixteen-zeros}
-use Rattle.protection.proofs.Cases.{case-9, case-10, needs-11, case-11, case-12}
-use Rattle.cases.specs.Table.{four, minus, Answers, AnswersFrom, Holds, AllHold, table}
+use Rattle.protection.specs.Descriptions.{eep, uep}
+use Rattle.protection.proofs.Accepted.{given}
+use Rattle.protection.proofs.Cases.{case-9, case-10, needs-11, case-11, case-12, needs-run, run-uep-32, run-eep-8, needs-16, run-eep-16}
+use Rattle.cases.specs.Table.{four, minus, Answers, AnswersFrom, Holds, AllHold, TwelveCases, RunCases}
 use Rattle.cases.proofs.Steps.{one-step, zero-answer, free-answer, zero-answer-from}
 
 case-1-zero : Answers zeroEnd [] [] (pos 0)
@@ -85,8 +87,7 @@ case-7 : Answers freeEnd erasures (0 ∷ []) (pos 0)
 unfolding survivor acs takes takesAt predOf lowWay highWay branch signBy outBit parity ones startScore bitsInto startInto listFrom
 case-7 = free-answer erasures 0 (omega arith) tt step-erasures (0 ∷ []) refl (pos 0) refl
 
--- every case of the table
-pub cases-hold : AllHold table
+pub cases-hold : TwelveCases
 unfolding Holds AllHold
 cases-hold = (
   (case-1-zero, case-1-free),
@@ -105,12 +106,12 @@ cases-hold = (
               (
                 sixteen-zeros,
                 (
-                  case-9,
+                  given (eep 0 3 8 860 4) case-9,
                   (
                     case-10,
                     (
-                      record { needs = needs-11 416; has = refl; refused = case-11 },
-                      (record { needs = needs-11 417; has = refl; refused = case-12 }, tt),
+                      record { needs = needs-11 416; has = refl; judged = given (uep 1 384 0 416) case-11 },
+                      (record { needs = needs-11 417; has = refl; judged = case-12 }, tt),
                     ),
                   ),
                 ),
@@ -121,4 +122,11 @@ cases-hold = (
       ),
     ),
   ),
+)
+
+pub run-cases-hold : RunCases
+unfolding Holds AllHold
+run-cases-hold = (
+  record { needs = needs-run; has = refl; judged = given (uep 1 32 0 35) run-uep-32 },
+  (run-eep-8 8, (record { needs = needs-16; has = refl; judged = given (eep 0 1 16 0 16) run-eep-16 }, tt)),
 )

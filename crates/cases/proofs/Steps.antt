@@ -4,25 +4,25 @@ use mathlib.Core.Path.{_≡_, refl, sym, ap, _∙_, subst}
 use mathlib.Core.Bool.{Bool}
 use mathlib.Core.List.{List, _++_, map, reverse}
 use mathlib.Core.Logic.{⊎-elim}
-use Prim.Native.Nat.{ℕ, _<_, _≤_}
+use Prim.Native.Nat.{ℕ, _<_}
 use native.Mathlib.Omega.{arith}
 use lib.Dec.{T}
-use lib.ListN.{length, drop}
+use lib.ListN.{drop}
 use lib.IntN.{ℤ, pos, _-ℤ_}
 use lib.Signed.{leZ, _≤ℤ_, ≤ℤ-refl}
 use Rattle.laws.specs.Lists.{listOf}
 use Rattle.laws.specs.Tables.{every}
 use Rattle.laws.proofs.Integers.{parts-le, lt-parts}
 use Rattle.spec_trellis.specs.Trellis.{bitN, scoreOf, Wins, Ends, zeroEnd, freeEnd, Permits, Best, Top, Subtracted, none, kept}
+use Rattle.spec_trellis.specs.Program.{survivor, startInto, bitsInto}
 use Rattle.spec_trellis.proofs.TrellisOrder.{best-unique}
-use Rattle.spec_trellis.proofs.TrellisProgram.{survivor, startInto, bitsInto, into-score, zero-best}
+use Rattle.spec_trellis.proofs.TrellisProgram.{into-score, zero-best}
 use Rattle.spec_trellis.proofs.TrellisShort.{under, free-best-by-test}
-use Rattle.viterbi.specs.declared.Decoding.{Decoding}
 use Rattle.viterbi.specs.declared.Decoding.the-variants.{Done}
-use Rattle.viterbi.specs.Decoders.{steps, answerOf, Decoded}
+use Rattle.viterbi.specs.Decoders.{steps}
 use Rattle.viterbi.specs.Result.{Decodes}
 use Rattle.viterbi.proofs.Result.{finished, bits-one, metric-one}
-use Rattle.cases.specs.Table.{Answers, AnswersFrom}
+use Rattle.cases.specs.Table.{Answers, AnswersFrom, CasesAnswered}
 
 -- e is the lowest of the states whose survivors score most after n steps
 abbrev pub Highest : List ℤ → ℕ → ℕ → Type 0
@@ -67,9 +67,8 @@ pub zero-answer-from : (xs : List ℤ) → Subtracted xs (steps xs) (pos 0) → 
 zero-answer-from xs s bits p m q start r =
     record { answers = zero-answer xs s bits p m q; from = λ f. best-unique (f .best) (zero-best xs (steps xs) 0 (omega arith) refl) .start-is ∙ r }
 
--- so a call with room for it is done, with this metric, and leaves these bits before the rest as it was
-pub answered : {ends : Ends} {xs : List ℤ} {bits : List ℕ} {m : ℤ} → Answers ends xs bits m → steps xs ≤ 65536 → (words lent : List ℕ) (r : Decoding) (words' lent' : List ℕ) → steps xs ≤ length words → steps xs ≤ length lent → Decoded ends xs words lent (answerOf r) words' lent' → (r ≡ Done (record { metric = m })) × (lent' ≡ bits ++ drop (steps xs) lent)
-answered {xs = xs} a few words lent r words' lent' w l d =
+pub answered : CasesAnswered
+answered ends xs bits m a few words out r words' out' w l d =
     let f = finished r few w l d in
     let o = a .only (f .left .decodes) in
-    (f .done-is ∙ ap (λ (z : ℤ). Done (record { metric = z })) (o .1), f .left .bits-are ∙ ap (λ (b : List ℕ). b ++ drop (steps xs) lent) (o .0))
+    (f .done-is ∙ ap (λ (z : ℤ). Done (record { metric = z })) (o .1), f .left .bits-are ∙ ap (λ (b : List ℕ). b ++ drop (steps xs) out) (o .0))

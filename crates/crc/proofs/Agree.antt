@@ -14,6 +14,7 @@ use Rattle.en300401.specs.Bytes.{bytesOfBits}
 use Rattle.en300401.specs.Crc.{fibValid, fibBytesValid}
 use Rattle.en300401.proofs.Bytes.{packed, Packed}
 use Rattle.crc.specs.Tests.{byteTest, bitTest, allBits}
+use Rattle.crc.specs.Theorems.{TestsAgree}
 use Rattle.crc.proofs.Bits.{are-all}
 
 -- the bit test of 256 zeros and ones
@@ -26,7 +27,7 @@ pub byte-is : (ys : List ℕ) → length ys ≡ 32 → byteTest ys ≡ fibBytesV
 unfolding byteTest
 byte-is ys e = ap (λ (t : Bool). cond t (fibBytesValid (take 32 ys)) false) (le-leb 32 (length ys) (omega arith)) ∙ ap fibBytesValid (take-all 32 ys (omega arith))
 
-pub tests-agree : (bs : List ℕ) → length bs ≡ 256 → AreBits bs → bitTest bs ≡ byteTest (bytesOfBits bs)
+pub tests-agree : TestsAgree
 unfolding fibBytesValid
 tests-agree bs e h = bit-is bs e h ∙ sym (byte-is (bytesOfBits bs) (p .long) ∙ ap fibValid (p .back))
   where

@@ -7,10 +7,12 @@ ghost use Rattle.en300401.specs.Bytes.{bitsOfBytes};
 ghost use Rattle.en300401.specs.Crc.{crcStep, crcFrom};
 ghost use Rattle.crc.specs.Tests.{byteTest, allBits, bitTest};
 
+// Bytes of a FIB, and of the CRC at its end.
 pub const FIB_LENGTH: usize = 32;
 
 pub const FIB_CRC_LENGTH: usize = 2;
 
+// Carriers of mode I: a symbol has two soft values for each.
 pub const K: usize = 1536;
 
 // The register after one bit more.
@@ -69,8 +71,9 @@ pub fn fib_crc_valid(fib: &[u8]) -> bool
     if fib.len() < FIB_LENGTH {
         return false;
     }
-    let word = 0xffff - crc_bytes(&fib[0..30]);
-    let sent = wide(fib[30]) * 256 + wide(fib[31]);
+    let end = FIB_LENGTH - FIB_CRC_LENGTH;
+    let word = 0xffff - crc_bytes(&fib[0..end]);
+    let sent = wide(fib[end]) * 256 + wide(fib[end + 1]);
     word == sent
 }
 

@@ -2,7 +2,7 @@
 -- Assumes nothing.
 use mathlib.Core.Path.{_≡_, refl, sym, ap, _∙_}
 use mathlib.Core.Bool.{Bool}
-use mathlib.Core.List.{List, [], _∷_, _++_}
+use mathlib.Core.List.{List, _++_}
 use Prim.Native.Nat.{ℕ, zero, suc, _<_, _≤_}
 use native.Mathlib.Omega.{arith}
 use borrow.Author.Tests.{lt-ltb, le-ltb}
@@ -14,26 +14,29 @@ use Rattle.laws.proofs.Lists.{sets-front}
 use Rattle.en300401.specs.Puncturing.{Region, mask, depuncture}
 use Rattle.en300401.proofs.Puncturing.{Usable, length-depuncture}
 use Rattle.refusal.specs.declared.Refusal.{Refusal}
-use Rattle.refusal.specs.Outcome.{Outcome, refuses, outcome, unlessRefused, check, orElse, firstOf}
-use Rattle.refusal.proofs.Laws.{orElse-zero, first-append, first-refused}
+use Rattle.refusal.specs.Outcome.{Outcome, refuses, outcome, unlessRefused, check, orElse}
+use Rattle.refusal.proofs.Laws.{orElse-zero, first-refused}
 use Rattle.protection.specs.declared.Description.{Description}
 use Rattle.protection.specs.declared.Judged.{Judged}
 use Rattle.protection.specs.declared.Judged.the-variants.{«Accepted» as judged-accepted, «Refused» as judged-refused}
 use Rattle.protection.specs.Answers.{judgedAs}
-use Rattle.protection.specs.Params.{paramsOf, regionsIn}
+use Rattle.protection.specs.Code.{regionsIn}
+use Rattle.protection.specs.Params.{paramsOf}
 use Rattle.depuncturing.specs.Promises.{mscRefusalOf, DepuncturePromise, DepuncturedMsc}
 use Rattle.depuncturing.specs.Code.{Fillable}
-use Rattle.protection.specs.Refusals.{rowRefusals, shapeRefusals, refusalOf, roomOf, profileOf}
+use Rattle.protection.specs.Promises.{JudgePromise}
+use Rattle.protection.specs.Refusals.{refusalOf, Accepted, roomOf, profileOf}
+use Rattle.protection.proofs.Accepted.{refused-from}
 use Rattle.protection.proofs.Params.{mask-by, mother-by, params-vectors}
 
 -- 1 to 8: 1 to 7, or else 8
-pub msc-split : (d : Description) (room : ℕ) → mscRefusalOf d room ≡ orElse (refusalOf d) (check 8 (ltb room (roomOf d)))
-unfolding mscRefusalOf refusalOf
-msc-split d room = first-append (rowRefusals d ++ shapeRefusals d) (check 8 (ltb room (roomOf d)) ∷ []) ∙ ap (orElse (firstOf (rowRefusals d ++ shapeRefusals d))) (orElse-zero (check 8 (ltb room (roomOf d))))
+pub msc-split : (d : Description) (long : ℕ) → mscRefusalOf d long ≡ orElse (refusalOf d) (check 8 (ltb long (roomOf d)))
+unfolding mscRefusalOf
+msc-split d long = ap (orElse (refusalOf d)) (orElse-zero (check 8 (ltb long (roomOf d))))
 
--- the code's params of a profile are fillable where its mask is no longer than the room
-pub params-fillable : (rs : List Region) → Usable rs → (room : ℕ) → length (mask rs) ≤ room → Fillable (paramsOf rs) room
-params-fillable rs u room h = record { vectors = params-vectors rs u; fits = omega (arith, mother-by rs u) }
+-- the code's params of a profile are fillable where its mask is no longer than the output
+pub params-fillable : (rs : List Region) → Usable rs → (long : ℕ) → length (mask rs) ≤ long → Fillable (paramsOf rs) long
+params-fillable rs u long h = record { vectors = params-vectors rs u; fits = omega (arith, mother-by rs u) }
 
 module _ {n need : ℕ} {profile : List Region} {soft before after : List ℤ} {r : Judged} where
   -- refused by k: nothing changed
@@ -59,7 +62,7 @@ module _ {n need : ℕ} {profile : List Region} {soft before after : List ℤ} {
 
 module _ (d : Description) (soft before : List ℤ) where
   -- refused by 1 to 7
-  pub msc-refused : (x : Refusal) {j : Judged} → judgedAs j ≡ outcome (refusalOf d) tt → j ≡ judged-refused x → DepuncturedMsc d soft before before (judged-refused x)
+  pub msc-refused : (x : Refusal) {j : Judged} → JudgePromise d j → j ≡ judged-refused x → DepuncturedMsc d soft before before (judged-refused x)
   msc-refused x {j} e q =
       record {
         answer = first-refused (refusalOf d) (check 8 (ltb (length before) (roomOf d))) tt tt (x .number) r ∙ ap (λ (m : ℕ). outcome m tt) (sym (msc-split d (length before)));
@@ -67,16 +70,16 @@ module _ (d : Description) (soft before : List ℤ) where
       }
     where
       r : _≡_ {A = Outcome (Unit {0})} (refuses (x .number)) (outcome (refusalOf d) tt)
-      r = sym (ap judgedAs q) ∙ e
+      r = sym (refused-from d e (ap judgedAs q))
 
       still : (n : ℕ) → _≡_ {A = Outcome (Unit {0})} (refuses (x .number)) (outcome n tt) → before ≡ unlessRefused (orElse n (check 8 (ltb (length before) (roomOf d)))) (depuncture (mask (profileOf d)) soft ++ drop (roomOf d) before) before
       still zero w = let z : _≡_ {A = ℕ} 0 1 = cc in absurd (omega arith)
       still (suc n) w = refl
 
   -- accepted by 1 to 7: 8, or no refusal
-  module _ (e : refusalOf d ≡ 0) where
-    pub room-short : length before < roomOf d → mscRefusalOf d (length before) ≡ 8
-    room-short h = msc-split d (length before) ∙ ap (λ (m : ℕ). orElse m (check 8 (ltb (length before) (roomOf d)))) e ∙ ap (check 8) (lt-ltb (length before) (roomOf d) h)
+  module _ (ok : Accepted d) where
+    pub too-short : length before < roomOf d → mscRefusalOf d (length before) ≡ 8
+    too-short h = msc-split d (length before) ∙ ap (λ (m : ℕ). orElse m (check 8 (ltb (length before) (roomOf d)))) ok ∙ ap (check 8) (lt-ltb (length before) (roomOf d) h)
 
-    pub room-given : roomOf d ≤ length before → mscRefusalOf d (length before) ≡ 0
-    room-given h = msc-split d (length before) ∙ ap (λ (m : ℕ). orElse m (check 8 (ltb (length before) (roomOf d)))) e ∙ ap (check 8) (le-ltb (length before) (roomOf d) h)
+    pub long-enough : roomOf d ≤ length before → mscRefusalOf d (length before) ≡ 0
+    long-enough h = msc-split d (length before) ∙ ap (λ (m : ℕ). orElse m (check 8 (ltb (length before) (roomOf d)))) ok ∙ ap (check 8) (le-ltb (length before) (roomOf d) h)

@@ -18,7 +18,7 @@ use Rattle.en300401.specs.Puncturing.{depuncture, regionMask, tailMask, mask}
 use Rattle.en300401.proofs.Puncturing.{depuncture-append, length-depuncture, depuncture-one, length-region}
 use Rattle.profiles.specs.Rows.{bits}
 use Rattle.protection.specs.declared.ProtectionParams.{ProtectionParams}
-use Rattle.protection.specs.Params.{region, regionIn, regionsIn}
+use Rattle.protection.specs.Code.{region, regionIn, regionsIn}
 use Rattle.depuncturing.specs.Code.{flag, flags, Runs}
 
 module _ {soft : List ℤ} where

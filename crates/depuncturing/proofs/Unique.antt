@@ -1,15 +1,8 @@
--- The depuncturers' promise admits one answer and one list of places.
+-- The depuncturers' promise admits one answer and one output (specs/Theorems.antt).
 -- Assumes nothing.
-use mathlib.Core.Path.{_≡_, sym, _∙_}
-use mathlib.Core.List.{List}
-use Prim.Native.Nat.{ℕ}
-use lib.IntN.{ℤ}
-use Rattle.en300401.specs.Puncturing.{Region}
-use Rattle.protection.specs.declared.Judged.{Judged}
+use mathlib.Core.Path.{sym, _∙_}
 use Rattle.protection.proofs.Unique.{judged-unique}
-use Rattle.depuncturing.specs.Promises.{DepuncturePromise}
+use Rattle.depuncturing.specs.Theorems.{OneDepuncturing}
 
-pub depuncture-unique :
-    {n need : ℕ} {profile : List Region} {soft before after after' : List ℤ} {r s : Judged}
-    → DepuncturePromise n need profile soft before after r → DepuncturePromise n need profile soft before after' s → (r ≡ s) × (after ≡ after')
-depuncture-unique {r} {s} p q = (judged-unique r s (p .answer ∙ sym (q .answer)), p .places ∙ sym (q .places))
+pub depuncture-unique : OneDepuncturing
+depuncture-unique n need profile soft before after after' r s p q = (judged-unique r s (p .answer ∙ sym (q .answer)), p .places ∙ sym (q .places))

@@ -19,10 +19,10 @@ flag x = not (eqb x 0)
 abbrev pub flags : List ℕ → List Bool
 flags xs = map flag xs
 
--- each region that is not empty has a vector, and the room holds them all
-pub record Fillable (p : ProtectionParams) (room : ℕ) : Type 0 where
+-- each region that is not empty has a vector, and an output of this length holds them all
+pub record Fillable (p : ProtectionParams) (long : ℕ) : Type 0 where
   pub vectors : (i : ℕ) → 0 < getD (p .blocks) i 0 → getD (p .pi) i 0 < 24
-  pub fits : 128 * blocksBy p + 24 ≤ room
+  pub fits : 128 * blocksBy p + 24 ≤ long
 
 -- the places from `at` hold what is depunctured under ks from value `read` on, and `next` is the first value not used
 pub record Runs (ks : List Bool) (soft : List ℤ) (read at : ℕ) (before after : List ℤ) (next : ℕ) : Type 0 where

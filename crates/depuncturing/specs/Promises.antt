@@ -10,15 +10,15 @@ use Rattle.refusal.specs.Outcome.{outcome, unlessRefused, check, firstOf}
 use Rattle.protection.specs.declared.Description.{Description}
 use Rattle.protection.specs.declared.Judged.{Judged}
 use Rattle.protection.specs.Answers.{judgedAs}
-use Rattle.protection.specs.Refusals.{profileOf, rowRefusals, shapeRefusals, roomOf}
+use Rattle.protection.specs.Refusals.{profileOf, refusalOf, roomOf}
 
--- 8: the room is short, after 1 to 7
+-- the first refusal of a description and an output of some length: 1 to 7 of the description, then 8
 unfoldable pub mscRefusalOf : Description → ℕ → ℕ
-mscRefusalOf d room = firstOf (rowRefusals d ++ shapeRefusals d ++ (check 8 (ltb room (roomOf d)) ∷ []))
+mscRefusalOf d long = firstOf (refusalOf d ∷ check 8 (ltb long (roomOf d)) ∷ [])
 
 -- 8 of the FIC
 abbrev pub ficRefusalOf : ℕ → ℕ
-ficRefusalOf room = check 8 (ltb room 3096)
+ficRefusalOf long = check 8 (ltb long 3096)
 
 -- what stands in `out` afterwards: the depunctured values and then what was there; all as it was where the call is refused
 pub record DepuncturePromise (n need : ℕ) (profile : List Region) (soft before after : List ℤ) (r : Judged) : Type 0 where

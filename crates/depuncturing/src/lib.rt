@@ -7,7 +7,7 @@ ghost use lib.Seq.{sets};
 ghost use Rattle.laws.specs.Integers.{at, pickZ};
 ghost use Rattle.laws.specs.Words.{pickN};
 ghost use Rattle.en300401.specs.Puncturing.{mask, depuncture, regionMask};
-ghost use Rattle.protection.specs.Params.{region, regionsIn};
+ghost use Rattle.protection.specs.Code.{region, regionsIn};
 ghost use Rattle.depuncturing.specs.Code.{flag, flags, Fillable, Runs};
 ghost use Rattle.depuncturing.specs.Promises.{DepuncturedMsc, DepuncturedFic};
 use protection::Description;

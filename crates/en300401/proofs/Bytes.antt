@@ -10,6 +10,7 @@ use lib.Seq.{take-nil, drop-nil, take-append-add, drop-append-add}
 use Rattle.laws.specs.Bits.{numOf, bitsOf, AreBits, AreBytes}
 use Rattle.laws.proofs.Bits.{length-bits, bits-num, num-bits, num-append, below-nil, below-cons, below-tail, bits-are, num-lt, below-append}
 use Rattle.en300401.specs.Bytes.{bitsOfBytes, bytesOfBits}
+use Rattle.en300401.specs.Theorems.{BytesBack}
 
 pub bits-length : (ys : List ℕ) → length (bitsOfBytes ys) ≡ 8 * length ys
 unfolding bitsOfBytes
@@ -97,7 +98,7 @@ unfolding bitsOfBytes
 bits-of-bytes [] = below-nil
 bits-of-bytes (y ∷ ys) = below-append (bits-are 8 y) (bits-of-bytes ys)
 
-pub bytes-back : (ys : List ℕ) → AreBytes ys → bytesOfBits (bitsOfBytes ys) ≡ ys
+pub bytes-back : BytesBack
 unfolding bitsOfBytes bytesOfBits bitsOf
 bytes-back [] h = refl
 bytes-back (y ∷ ys) h =

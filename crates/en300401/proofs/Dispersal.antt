@@ -11,6 +11,7 @@ use lib.Seq.{ext-getD}
 use Rattle.laws.specs.Bits.{AreBits, mapFrom}
 use Rattle.laws.proofs.Bits.{length-mapFrom, mapFrom-at}
 use Rattle.en300401.specs.Dispersal.{stage, prbs, disperse}
+use Rattle.en300401.specs.Theorems.{DisperseTwice}
 
 pub stage-lt : (n : ℕ) → stage n < 2
 unfolding stage
@@ -126,7 +127,7 @@ xor-twice a (suc zero) h = flipped (bitXor a 1) ∙ ap (λ (x : ℕ). x / 2 * 2 
 xor-twice a (suc (suc p)) h = absurd (omega arith)
 
 -- dispersal twice is the identity
-pub disperse-twice : (xs : List ℕ) → disperse (disperse xs) ≡ xs
+pub disperse-twice : DisperseTwice
 disperse-twice xs =
     ext-getD 0 (disperse (disperse xs)) xs (disperse-length (disperse xs) ∙ disperse-length xs)
     (λ i l. go i (subst (λ (m : ℕ). i < m) (disperse-length (disperse xs) ∙ disperse-length xs) l))

@@ -17,6 +17,7 @@ use Rattle.laws.specs.Integers.{at, pickZ}
 use Rattle.laws.proofs.Lists.{length-listOf, length-copies, count-append, count-copies}
 use Rattle.laws.proofs.Tables.{rule-at}
 use Rattle.en300401.specs.Puncturing.{rank, keeps, vector, Region, noRegion, regionMask, tailMask, mask, keptSize, puncture, depuncture, ficProfile}
+use Rattle.en300401.specs.Theorems.{ThereAndBack}
 
 pub length-vector : (pi : ℕ) → length (vector pi) ≡ 32
 unfolding vector
@@ -148,7 +149,7 @@ length-puncture (true ∷ ks) (x ∷ xs) e = ap suc (length-puncture ks xs (omeg
 length-puncture (false ∷ ks) (x ∷ xs) e = length-puncture ks xs (omega arith)
 
 -- what was sent, with any surplus after it, comes back: each kept place has its value, and 0 stands elsewhere
-pub there-and-back : (ks : List Bool) (xs ys : List ℤ) → length ks ≡ length xs → (i : ℕ) → i < length ks → at (depuncture ks (puncture ks xs ++ ys)) i ≡ pickZ (getD ks i false) (at xs i) (pos 0)
+pub there-and-back : ThereAndBack
 unfolding depuncture puncture
 there-and-back [] xs ys e i h = absurd (not-suc-le-zero h)
 there-and-back (k ∷ ks) [] ys e i h = absurd (omega arith)

@@ -14,6 +14,7 @@ use Rattle.laws.proofs.Lists.{found-passes, found-every}
 use Rattle.laws.proofs.Tables.{both-left, both-right, rule-at}
 use Rattle.en300401.specs.Puncturing.{Region, noRegion, mask, keptSize}
 use Rattle.en300401.specs.Uep.{Row, noRow, uepTable, isFor, uepRow}
+use Rattle.en300401.specs.Theorems.{RowFills}
 use Rattle.en300401.proofs.Puncturing.{OkRegion, Usable, blocksIn, sentIn, in-table, length-mask, kept-size}
 
 -- the tests of a region and of a row
@@ -137,6 +138,9 @@ module _ (k l : ℕ) {p : Row} (e : uepRow k l ≡ some p) where
   -- 96 places of the mother code word for each kbit/s, and the tail
   pub uep-length : length (mask (p .regions)) ≡ 96 * k + 24
   uep-length = length-mask (p .regions) ∙ omega (arith, uep-law .blocks, uep-rate)
+
+pub row-fills : RowFills
+row-fills k l p e = uep-law k l e .fills
 
 -- where the first row that passes a test stands
 place : (Row → Bool) → List Row → ℕ

@@ -1,7 +1,7 @@
 -- Clause 12, time interleaving; clauses 5.3 and 13, the sizes of a common interleaved frame (CIF) in mode I.
 use mathlib.Core.Bool.{cond}
 use mathlib.Core.List.{List, [], _∷_}
-use Prim.Native.Nat.{ℕ, _-_, _%_}
+use Prim.Native.Nat.{ℕ, _*_, _-_, _%_}
 use lib.Dec.{ltb}
 use lib.ListN.{getD}
 
@@ -26,8 +26,12 @@ unitBits = 64
 abbrev pub cifBits : ℕ
 cifBits = 55296
 
+-- mode I has 1,536 carriers, and a symbol two bits on each
+abbrev pub carriers : ℕ
+carriers = 1536
+
 abbrev pub symbolBits : ℕ
-symbolBits = 3072
+symbolBits = 2 * carriers
 
 abbrev pub cifSymbols : ℕ
 cifSymbols = 18

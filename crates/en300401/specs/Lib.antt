@@ -6,4 +6,5 @@ pub mod Eep
 pub mod Interleaving
 pub mod MotherCode
 pub mod Puncturing
+pub mod Theorems
 pub mod Uep

@@ -1,25 +1,20 @@
-// The library for C and Rust: each function is a room's, over plain numbers and slices. include/feltcomet.h declares and explains them.
-// A refusal is returned as its number, 0 where the call is done; then all that was lent is as it was.
+// The library for C and Rust: each export is a bare call of a function below with the same promise. include/feltcomet.h declares and explains them.
+// A refusal is returned as its number, 0 where the call is done; after a refusal the caller's buffers are as they were.
 ghost use mathlib.Core.Path.{_≡_};
-ghost use Prim.Native.Nat.{_<_};
-ghost use lib.ListN.{length};
 ghost use Rattle.en300401.specs.Dispersal.{disperse};
 ghost use Rattle.en300401.specs.Puncturing.{keptSize};
 ghost use Rattle.spec_trellis.specs.Trellis.{zeroEnd, freeEnd};
 ghost use Rattle.crc.specs.Tests.{byteTest, bitTest};
 ghost use Rattle.protection.specs.Promises.{motherSize};
 ghost use Rattle.protection.specs.Refusals.{refusalOf};
-ghost use Rattle.viterbi.specs.Decoders.{steps};
 ghost use Rattle.fic_handler.specs.Blocks.{lent};
 ghost use Rattle.msc_handler.specs.Promises.{buffers};
+ghost use Rattle.places.specs.Lookups.{rowOf, one, Looked};
 ghost use Rattle.places.specs.Places.{describes};
+ghost use Rattle.c_fec.specs.Decoders.{Decoder};
+ghost use Rattle.c_fec.specs.Depuncturing.{FilledMsc, FilledFic};
 ghost use Rattle.figure_places.specs.Fic.{figures, FicCall};
 ghost use Rattle.state_places.specs.Msc.{SetUpCall, ResetCall, fedPlaces, FeedCall};
-ghost use Rattle.feltcomet.specs.Calls.{rowOf, one, Looked};
-ghost use Rattle.feltcomet.specs.Code.{Told, noPlace};
-ghost use Rattle.feltcomet.specs.Decoders.{Decoder};
-ghost use Rattle.feltcomet.specs.Depuncturing.{FilledMsc, FilledFic};
-use viterbi::Decoding;
 
 #[no_mangle]
 pub extern "C" fn feltcomet_energy_dispersal(bits: &mut [u8])
@@ -53,15 +48,14 @@ pub extern "C" fn feltcomet_judge(
 ) -> u8
     ensures { λ r. ⌜ r ≡ refusalOf (describes «start_addr» «sub_size» bitrate «protection_level» «eep_option» «is_eep») ⌝ }
 {
-    let d = places::described(
+    places::judge(
         start_addr,
         sub_size,
         bitrate,
         protection_level,
         eep_option,
         is_eep,
-    );
-    places::number(protection::judge(d))
+    )
 }
 
 #[no_mangle]
@@ -76,15 +70,15 @@ pub extern "C" fn feltcomet_profile(
 ) -> u8
     ensures { λ r. ⌜ Looked (describes «start_addr» «sub_size» bitrate «protection_level» «eep_option» «is_eep») 8 rowOf (now (row .entry)) (now (row .exit)) r ⌝ }
 {
-    let d = places::described(
+    places::profile(
         start_addr,
         sub_size,
         bitrate,
         protection_level,
         eep_option,
         is_eep,
-    );
-    places::write_row(protection::protection_params(d), row)
+        row,
+    )
 }
 
 #[no_mangle]
@@ -99,15 +93,15 @@ pub extern "C" fn feltcomet_needed_size(
 ) -> u8
     ensures { λ r. ⌜ Looked (describes «start_addr» «sub_size» bitrate «protection_level» «eep_option» «is_eep») 1 (one keptSize) (now (size .entry)) (now (size .exit)) r ⌝ }
 {
-    let d = places::described(
+    places::needed_size(
         start_addr,
         sub_size,
         bitrate,
         protection_level,
         eep_option,
         is_eep,
-    );
-    places::write_size(protection::needed_size(d), size)
+        size,
+    )
 }
 
 #[no_mangle]
@@ -122,15 +116,15 @@ pub extern "C" fn feltcomet_depunctured_size(
 ) -> u8
     ensures { λ r. ⌜ Looked (describes «start_addr» «sub_size» bitrate «protection_level» «eep_option» «is_eep») 1 (one motherSize) (now (size .entry)) (now (size .exit)) r ⌝ }
 {
-    let d = places::described(
+    places::depunctured_size(
         start_addr,
         sub_size,
         bitrate,
         protection_level,
         eep_option,
         is_eep,
-    );
-    places::write_size(protection::depunctured_size(d), size)
+        size,
+    )
 }
 
 #[no_mangle]
@@ -146,44 +140,23 @@ pub extern "C" fn feltcomet_depuncture_msc(
 ) -> u8
     ensures { λ r. ⌜ FilledMsc (describes «start_addr» «sub_size» bitrate «protection_level» «eep_option» «is_eep») (now (soft .entry)) (now (out .entry)) (now (out .exit)) r ⌝ }
 {
-    let d = places::described(
+    c_fec::depuncture_msc(
+        soft,
         start_addr,
         sub_size,
         bitrate,
         protection_level,
         eep_option,
         is_eep,
-    );
-    places::number(depuncturing::depuncture_msc(soft, d, out))
+        out,
+    )
 }
 
 #[no_mangle]
 pub extern "C" fn feltcomet_depuncture_fic(soft: &[i8], out: &mut [i8]) -> u8
     ensures { λ r. ⌜ FilledFic (now (soft .entry)) (now (out .entry)) (now (out .exit)) r ⌝ }
 {
-    places::number(depuncturing::depuncture_fic(soft, out))
-}
-
-// What a decoder has answered: its metric into the first place.
-fn tell(answer: Decoding, metric: &mut [i32]) -> u8
-    requires { ⌜ 0 < length (now metric) ⌝ }
-    ensures { λ r. ⌜ Told answer (now (metric .entry)) (now (metric .exit)) r ⌝ }
-{
-    match answer {
-        Decoding::Refused(r) => r.number,
-        Decoding::Done(s) => {
-            let best = s.metric;
-            metric[0] = best;
-            0
-        }
-    }
-}
-
-// No place for the metric: 8, after 11.
-fn no_place(soft: &[i8]) -> u8
-    ensures { λ r. ⌜ r ≡ noPlace (steps (now (soft .entry))) ⌝ }
-{
-    if 65536 < soft.len() / 4 { 11 } else { 8 }
+    c_fec::depuncture_fic(soft, out)
 }
 
 #[no_mangle]
@@ -195,10 +168,7 @@ pub extern "C" fn feltcomet_viterbi_decode_state0(
 ) -> u8
     ensures { λ r. ⌜ Decoder zeroEnd (now (soft .entry)) (now (words .entry)) (now (bits .entry)) (now (metric .entry)) r (now (words .exit)) (now (bits .exit)) (now (metric .exit)) ⌝ }
 {
-    if metric.len() < 1 {
-        return no_place(soft);
-    }
-    tell(viterbi::viterbi_decode_state0(soft, words, bits), metric)
+    c_fec::viterbi_decode_state0(soft, words, bits, metric)
 }
 
 #[no_mangle]
@@ -210,13 +180,7 @@ pub extern "C" fn feltcomet_viterbi_decode_with_metric(
 ) -> u8
     ensures { λ r. ⌜ Decoder freeEnd (now (soft .entry)) (now (words .entry)) (now (bits .entry)) (now (metric .entry)) r (now (words .exit)) (now (bits .exit)) (now (metric .exit)) ⌝ }
 {
-    if metric.len() < 1 {
-        return no_place(soft);
-    }
-    tell(
-        viterbi::viterbi_decode_with_metric(soft, words, bits),
-        metric,
-    )
+    c_fec::viterbi_decode_with_metric(soft, words, bits, metric)
 }
 
 #[no_mangle]
@@ -261,15 +225,16 @@ pub extern "C" fn feltcomet_set_up(
 ) -> u8
     ensures { λ r. ⌜ SetUpCall (describes «start_addr» «sub_size» bitrate «protection_level» «eep_option» «is_eep») (now (ring .entry)) (now (state .entry)) r (now (ring .exit)) (now (state .exit)) ⌝ }
 {
-    let d = places::described(
+    state_places::set_up(
         start_addr,
         sub_size,
         bitrate,
         protection_level,
         eep_option,
         is_eep,
-    );
-    state_places::set_up(d, ring, state)
+        ring,
+        state,
+    )
 }
 
 #[no_mangle]

@@ -1,24 +1,25 @@
--- A block that was heard clean gives its three FIBs, whatever the other blocks hold.
+-- The FIC's theorem (specs/Theorems.antt): a block that was heard clean gives its three FIBs, whatever the other blocks hold.
 -- Assumes nothing.
 use mathlib.Core.Path.{_≡_, refl, sym, ap, ap₂, _∙_, subst}
 use mathlib.Core.Bool.{Bool, cond}
 use mathlib.Core.List.{List, [], _++_, append-assoc, append-nil}
-use Prim.Native.Nat.{ℕ, zero, suc, _+_, _*_, _<_, _≤_}
+use Prim.Native.Nat.{ℕ, zero, suc, _+_, _*_, _/_, _<_, _≤_}
 use native.Mathlib.Omega.{arith}
 use native.Mathlib.Decide.{ℕ-discrete, decLt}
 use borrow.Author.Tests.{lt-ltb}
 use lib.ListN.{length, getD, take, drop, length-append}
 use lib.Seq.{take-at, drop-at}
 use lib.IntN.{ℤ}
-use Rattle.refusal.specs.Outcome.{gives}
-use Rattle.fic_handler.specs.declared.Fic.{Fic}
-use Rattle.fic_handler.specs.Blocks.{joined, blocksIn, dataBits, passedBytes, countOf, Block, IsBlock, Lent, written, total}
-use Rattle.fic_handler.specs.Promise.{processRefusal, four, Processed, Outcomes, FicPromise}
+use Rattle.refusal.specs.Outcome.{gives, refuses}
+use Rattle.fic_handler.specs.Blocks.{joined, blocksIn, dataBits, passedBytes, countOf, Block, IsBlock, written, total}
+use Rattle.fic_handler.specs.Promise.{processRefusal, four, Processed, Outcomes}
 use Rattle.fic_handler.proofs.Run.{four-at, written-length}
-use Rattle.fic_handler.proofs.Refusals.{first-long, second-long, third-long}
-use Rattle.fic_agreement.specs.Heard.{Heard, passedBefore, ComeOut, AllComeOut}
-use Rattle.fic_agreement.specs.Sender.{Data, fibsOf}
-use Rattle.fic_agreement.proofs.Chain.{fibs-length, block-passed, block-counted}
+use Rattle.fic_handler.proofs.Refusals.{first-long, second-long, third-long, no-refusal}
+use Rattle.spec_sender.specs.Fic.{fibsOf}
+use Rattle.spec_sender.proofs.Fic.{fibs-length}
+use Rattle.fic_agreement.specs.Heard.{TakenCall, valuesOf, Heard, passedBefore, AllComeOut}
+use Rattle.fic_agreement.specs.Theorems.{CleanBlockComesOut, CleanBlocksComeOut, WholeFicComesOut}
+use Rattle.fic_agreement.proofs.Chain.{block-passed, block-counted}
 
 -- ---- the bytes of block b among all
 
@@ -75,62 +76,100 @@ counted-all k (suc n) each = omega (arith, counted-all k n (λ b l. each b (omeg
 
 -- ---- what comes out
 
-module _ (s1 s2 s3 : List ℤ) (before : Lent) (accepted : processRefusal s1 s2 s3 before ≡ 0) where
-  -- a call that is not refused has four blocks at the most
-  short : (s : List ℤ) → (3072 < length s → processRefusal s1 s2 s3 before ≡ 11) → length s ≤ 3072
+module _ (c : TakenCall) where
+  abbrev values : List ℤ
+  values = valuesOf c
+
+  abbrev refusal : ℕ
+  refusal = processRefusal (c .s1) (c .s2) (c .s3) (c .before)
+
+  -- the call was not refused: it has no refusal
+  none-given : refusal ≡ 0
+  unfolding Outcomes
+  none-given = go refusal (c .promise .outcome)
+    where
+      go : (n : ℕ) → Outcomes n values (c .before) (c .result) (c .after) → n ≡ 0
+      go zero o = refl
+      go (suc n) o = let e : refuses (suc n) ≡ gives (c .count) = sym (o .0 .answer) ∙ c .answer in let z : _≡_ {A = ℕ} 0 1 = cc in absurd (omega arith)
+
+  -- so it has four blocks at the most
+  short : (s : List ℤ) → (3072 < length s → refusal ≡ 11) → length s ≤ 3072
   short s long = go (decLt 3072 (length s))
     where
       go : Dec (3072 < length s) → length s ≤ 3072
-      go (yes h) = absurd (omega (arith, long h, accepted))
+      go (yes h) = absurd (omega (arith, long h, none-given))
       go (no h) = omega arith
 
-  few : blocksIn (joined s1 s2 s3) ≤ 4
+  few : blocksIn values ≤ 4
   few =
-      let a : length s1 ≤ 3072 = short s1 (first-long s1 s2 s3 before) in
-      let b : length s2 ≤ 3072 = short s2 (second-long s1 s2 s3 before a) in
-      let c : length s3 ≤ 3072 = short s3 (third-long s1 s2 s3 before a b) in
-      omega (arith, length-append s1 (s2 ++ s3), length-append s2 s3)
+      let l1 : length (c .s1) ≤ 3072 = short (c .s1) (first-long (c .s1) (c .s2) (c .s3) (c .before)) in
+      let l2 : length (c .s2) ≤ 3072 = short (c .s2) (second-long (c .s1) (c .s2) (c .s3) (c .before) l1) in
+      let l3 : length (c .s3) ≤ 3072 = short (c .s3) (third-long (c .s1) (c .s2) (c .s3) (c .before) l1 l2) in
+      omega (arith, length-append (c .s1) (c .s2 ++ c .s3), length-append (c .s2) (c .s3))
 
-  module _ {r : Fic} {after : Lent} (promise : FicPromise s1 s2 s3 before r after) where
-    processed : Processed (joined s1 s2 s3) (blocksIn (joined s1 s2 s3)) before r after
-    unfolding Outcomes
-    processed = subst (λ (n : ℕ). Outcomes n (joined s1 s2 s3) before r after) accepted (promise .outcome)
+  processed : Processed values (blocksIn values) (c .before) (c .result) (c .after)
+  unfolding Outcomes
+  processed = subst (λ (n : ℕ). Outcomes n values (c .before) (c .result) (c .after)) none-given (c .promise .outcome)
 
-    -- a block heard clean: its three FIBs, whatever the other blocks hold
-    pub fibs-come-out : {f : Data} {b : ℕ} → Heard f (joined s1 s2 s3) b → ComeOut f b r after
-    fibs-come-out {f} {b} h =
-        let p = processed in
-        let n : ℕ = blocksIn (joined s1 s2 s3) in
-        let k : ℕ → Block = p .block in
-        let l : b < 4 = omega (arith, h .whole, few) in
-        let its : passedBytes (dataBits (k b .decoded)) 3 ≡ fibsOf f = block-passed f h (p .each b (h .whole)) in
-        record {
-          three = ap (λ (c : List ℕ). getD c b 0) (p .passed) ∙ count-at n b (λ (i : ℕ). countOf (dataBits (k i .decoded)) 3) (h .whole) l ∙ block-counted f h (p .each b (h .whole));
-          bytes =
-              ap₂ (λ (m : ℕ) (out : List ℕ). take 96 (drop (32 * m) out)) (ap (λ (c : List ℕ). passedBefore c b) (p .passed) ∙ before-is k n b (omega (arith, h .whole)) (omega arith)) (p .fibs)
-              ∙ own-bytes k n b (h .whole) (p .each) (ap length its ∙ fibs-length f) _ ∙ its;
-        }
+pub fibs-come-out : CleanBlockComesOut
+fibs-come-out c f b h =
+    let p = processed c in
+    let n : ℕ = blocksIn (values c) in
+    let k : ℕ → Block = p .block in
+    let l : b < 4 = omega (arith, h .whole, few c) in
+    let its : passedBytes (dataBits (k b .decoded)) 3 ≡ fibsOf f = block-passed f h (p .each b (h .whole)) in
+    record {
+      three = ap (λ (m : List ℕ). getD m b 0) (p .passed) ∙ count-at n b (λ (i : ℕ). countOf (dataBits (k i .decoded)) 3) (h .whole) l ∙ block-counted f h (p .each b (h .whole));
+      bytes =
+          ap₂ (λ (m : ℕ) (out : List ℕ). take 96 (drop (32 * m) out)) (ap (λ (m : List ℕ). passedBefore m b) (p .passed) ∙ before-is k n b (omega (arith, h .whole)) (omega arith)) (p .fibs)
+          ∙ own-bytes k n b (h .whole) (p .each) (ap length its ∙ fibs-length f) _ ∙ its;
+    }
 
-    -- all blocks heard clean: three FIBs of each, in order
-    pub all-come-out : (fs : ℕ → Data) → ((b : ℕ) → b < blocksIn (joined s1 s2 s3) → Heard (fs b) (joined s1 s2 s3) b) → AllComeOut fs (blocksIn (joined s1 s2 s3)) r after
-    all-come-out fs h =
-        record {
-          answer = processed .answer ∙ ap gives (counted-all k n three);
-          bytes = λ b l. ap (λ (m : ℕ). take 96 (drop m (after .fibs))) (sym (earlier b l)) ∙ fibs-come-out (h b l) .bytes;
-        }
-      where
-        n : ℕ
-        n = blocksIn (joined s1 s2 s3)
+pub all-come-out : CleanBlocksComeOut
+all-come-out c fs h =
+    record {
+      answer = p .answer ∙ ap gives (counted-all k n three);
+      bytes = λ b l. ap (λ (m : ℕ). take 96 (drop m (c .after .fibs))) (sym (earlier b l)) ∙ fibs-come-out c (fs b) b (h b l) .bytes;
+    }
+  where
+    n : ℕ
+    n = blocksIn (values c)
 
-        k : ℕ → Block
-        k = processed .block
+    p : Processed (values c) n (c .before) (c .result) (c .after)
+    p = processed c
 
-        three : (b : ℕ) → b < n → countOf (dataBits (k b .decoded)) 3 ≡ 3
-        three b l = block-counted (fs b) (h b l) (processed .each b l)
+    k : ℕ → Block
+    k = p .block
 
-        -- those of the blocks before it
-        earlier : (b : ℕ) → b < n → 32 * passedBefore (r .passed) b ≡ 96 * b
-        earlier b l =
-            let e : passedBefore (r .passed) b ≡ total k b = ap (λ (c : List ℕ). passedBefore c b) (processed .passed) ∙ before-is k n b (omega (arith, l)) (omega (arith, l, few)) in
-            let t : total k b ≡ 3 * b = counted-all k b (λ i j. three i (omega (arith, j, l))) in
-            omega (arith, e, t)
+    three : (b : ℕ) → b < n → countOf (dataBits (k b .decoded)) 3 ≡ 3
+    three b l = block-counted (fs b) (h b l) (p .each b l)
+
+    -- those of the blocks before it
+    earlier : (b : ℕ) → b < n → 32 * passedBefore (c .result .passed) b ≡ 96 * b
+    earlier b l =
+        let e : passedBefore (c .result .passed) b ≡ total k b = ap (λ (m : List ℕ). passedBefore m b) (p .passed) ∙ before-is k n b (omega (arith, l)) (omega (arith, l, few c)) in
+        let u : total k b ≡ 3 * b = counted-all k b (λ i j. three i (omega (arith, j, l))) in
+        omega (arith, e, u)
+
+pub whole-fic-comes-out : WholeFicComesOut
+unfolding Outcomes
+whole-fic-comes-out s1 s2 s3 full before long r after promise fs agrees = subst (λ (n : ℕ). AllComeOut fs n r after) four-blocks (all-come-out call fs heard)
+  where
+    joined-long : length (joined s1 s2 s3) ≡ 9216
+    joined-long = length-append s1 (s2 ++ s3) ∙ omega (arith, length-append s2 s3, full .first, full .second, full .third)
+
+    four-blocks : blocksIn (joined s1 s2 s3) ≡ 4
+    four-blocks = ap (λ (n : ℕ). n / 2304) joined-long
+
+    none : processRefusal s1 s2 s3 before ≡ 0
+    none =
+        no-refusal s1 s2 s3 before (omega (arith, full .first)) (omega (arith, full .second)) (omega (arith, full .third)) (long .values) (long .words) (long .bits) (omega (arith, four-blocks, long .fibs))
+
+    done : Processed (joined s1 s2 s3) (blocksIn (joined s1 s2 s3)) before r after
+    done = subst (λ (n : ℕ). Outcomes n (joined s1 s2 s3) before r after) none (promise .outcome)
+
+    call : TakenCall
+    call = record { s1 = s1; s2 = s2; s3 = s3; before = before; result = r; after = after; promise = promise; count = _; answer = done .answer }
+
+    heard : (b : ℕ) → b < blocksIn (joined s1 s2 s3) → Heard (fs b) (joined s1 s2 s3) b
+    heard b l = record { whole = l; agrees = λ i h. agrees b i (omega (arith, l, four-blocks)) h }

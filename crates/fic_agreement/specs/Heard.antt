@@ -1,16 +1,32 @@
 -- Document 01, fic/handler.rs and "What the receiver owes": a block that was heard clean, and what then comes out.
 use mathlib.Core.Path.{_≡_}
 use mathlib.Core.List.{List}
-use Prim.Native.Nat.{ℕ, zero, suc, _+_, _*_, _<_}
-use lib.ListN.{getD, take, drop}
+use Prim.Native.Nat.{ℕ, zero, suc, _+_, _*_, _<_, _≤_}
+use lib.ListN.{length, getD, take, drop}
 use lib.IntN.{ℤ}
 use Rattle.laws.specs.Integers.{at}
 use Rattle.refusal.specs.Outcome.{gives}
 use Rattle.spec_trellis.specs.Clean.{Agrees}
+use Rattle.spec_sender.specs.Fic.{Data, fibsOf, blockSent}
 use Rattle.fic_handler.specs.declared.Fic.{Fic}
-use Rattle.fic_handler.specs.Blocks.{blocksIn, Lent}
-use Rattle.fic_handler.specs.Promise.{answerOf}
-use Rattle.fic_agreement.specs.Sender.{Data, fibsOf, blockSent}
+use Rattle.fic_handler.specs.Blocks.{joined, blocksIn, Lent}
+use Rattle.fic_handler.specs.Promise.{answerOf, FicPromise}
+
+-- a call of `process_fic` on three symbols that was not refused
+pub record TakenCall : Type 0 where
+  pub s1 : List ℤ
+  pub s2 : List ℤ
+  pub s3 : List ℤ
+  pub before : Lent
+  pub result : Fic
+  pub after : Lent
+  pub promise : FicPromise s1 s2 s3 before result after
+  pub count : ℕ
+  pub answer : answerOf (result .answer) ≡ gives count
+
+-- its values, joined
+abbrev pub valuesOf : TakenCall → List ℤ
+valuesOf c = joined (c .s1) (c .s2) (c .s3)
 
 -- block b of the joined symbols is whole, and each of its values is nonzero and of the sent bit's sign
 pub record Heard (f : Data) (xs : List ℤ) (b : ℕ) : Type 0 where
@@ -31,3 +47,16 @@ pub record ComeOut (f : Data) (b : ℕ) (r : Fic) (after : Lent) : Type 0 where
 pub record AllComeOut (fs : ℕ → Data) (n : ℕ) (r : Fic) (after : Lent) : Type 0 where
   pub answer : answerOf (r .answer) ≡ gives (3 * n)
   pub bytes : (b : ℕ) → b < n → take 96 (drop (96 * b) (after .fibs)) ≡ fibsOf (fs b)
+
+-- the caller's buffers have what four blocks need
+pub record LongEnough (l : Lent) : Type 0 where
+  pub values : 3096 ≤ length (l .depunctured)
+  pub words : 774 ≤ length (l .words)
+  pub bits : 774 ≤ length (l .bits)
+  pub fibs : 384 ≤ length (l .fibs)
+
+-- the three symbols of one transmission frame, at full length
+pub record FullSymbols (s1 s2 s3 : List ℤ) : Type 0 where
+  pub first : length s1 ≡ 3072
+  pub second : length s2 ≡ 3072
+  pub third : length s3 ≡ 3072

@@ -1,2 +1,2 @@
 pub mod Heard
-pub mod Sender
+pub mod Theorems

@@ -1,1 +1,1 @@
-// Proofs only: the FIC from the sender's side, and that a clean block's FIBs come out.
+// Proofs only: a block of the FIC that was heard clean gives the three FIBs that were sent.

@@ -22,7 +22,8 @@ use Rattle.quality.specs.declared.Quality.{Quality}
 use Rattle.quality.specs.Figures.{qualityOf}
 use Rattle.viterbi.specs.Result.{Decodes, ChoiceWords}
 use Rattle.viterbi.proofs.Result.{decoded-length, decoded-bits}
-use Rattle.fic_handler.specs.Blocks.{dataBits, countOf, passedBytes, KeptFibs, BlockDecoded, BlockProcessed, Lent}
+use Rattle.fic_handler.specs.Blocks.{dataBits, countOf, passedBytes, Lent}
+use Rattle.fic_handler.specs.Code.{KeptFibs, BlockDecoded, BlockProcessed}
 
 -- a block with the erasures put back
 abbrev pub restored : List ℤ → List ℤ

@@ -13,7 +13,8 @@ use Rattle.laws.proofs.Words.{bit-lt}
 use Rattle.en300401.specs.Bytes.{bytesOfBits}
 use Rattle.en300401.specs.Crc.{fibValid}
 use Rattle.en300401.proofs.Bytes.{bytes-length}
-use Rattle.fic_handler.specs.Blocks.{fibOf, good, passedBytes, countOf, KeptFib, KeptFibs}
+use Rattle.fic_handler.specs.Blocks.{fibOf, good, passedBytes, countOf}
+use Rattle.fic_handler.specs.Code.{KeptFib, KeptFibs}
 
 pub fib-length : (bits : List ℕ) (j : ℕ) → length bits ≡ 768 → j < 3 → length (fibOf bits j) ≡ 256
 fib-length bits j e h = simp (length-take, length-drop) (omega arith)

@@ -1,13 +1,14 @@
 -- The refusals of `process_fic`, from its tests in document 01's order.
 -- Assumes nothing.
-use mathlib.Core.Path.{_≡_, refl, sym, subst}
+use mathlib.Core.Path.{_≡_, refl, sym, ap, _∙_, subst}
 use mathlib.Core.List.{List}
 use Prim.Native.Nat.{ℕ, suc, _*_, _<_, _≤_}
 use borrow.Author.Tests.{lt-ltb, le-ltb}
 use lib.IntN.{ℤ}
 use lib.ListN.{length}
+use Rattle.refusal.specs.Outcome.{outcome}
 use Rattle.fic_handler.specs.declared.Fic.{Fic}
-use Rattle.fic_handler.specs.Blocks.{joined, blocksIn, Lent}
+use Rattle.fic_handler.specs.Blocks.{joined, blocksIn, Lent, total}
 use Rattle.fic_handler.specs.Promise.{tooLong, noRoom, processRefusal, Away, Outcomes, Processed, FicPromise}
 
 module _ (s1 s2 s3 : List ℤ) (l : Lent) where
@@ -46,8 +47,19 @@ module _ (s1 s2 s3 : List ℤ) (l : Lent) where
 
   pub away : {k : ℕ} {r : Fic} → processRefusal s1 s2 s3 l ≡ suc k → Away (suc k) r → FicPromise s1 s2 s3 l r l
   unfolding Outcomes
-  away {k} {r} e p = record { outcome = subst (λ (n : ℕ). Outcomes n (joined s1 s2 s3) l r l) (sym e) (p, refl) }
+  away {k} {r} e p =
+      record {
+        fibs = 0;
+        answer = p .answer ∙ ap (λ (n : ℕ). outcome n 0) (sym e);
+        outcome = subst (λ (n : ℕ). Outcomes n (joined s1 s2 s3) l r l) (sym e) (p, refl);
+      }
 
   pub done : {r : Fic} {after : Lent} → processRefusal s1 s2 s3 l ≡ 0 → Processed (joined s1 s2 s3) (blocksIn (joined s1 s2 s3)) l r after → FicPromise s1 s2 s3 l r after
   unfolding Outcomes
-  done {r} {after} e p = record { outcome = subst (λ (n : ℕ). Outcomes n (joined s1 s2 s3) l r after) (sym e) p }
+  done {r} {after} e p =
+      let fibs : ℕ = total (p .block) (blocksIn (joined s1 s2 s3)) in
+      record {
+        fibs = fibs;
+        answer = p .answer ∙ ap (λ (n : ℕ). outcome n fibs) (sym e);
+        outcome = subst (λ (n : ℕ). Outcomes n (joined s1 s2 s3) l r after) (sym e) p;
+      }

@@ -18,7 +18,8 @@ use Rattle.laws.proofs.Lists.{length-listOf, listOf-at}
 use Rattle.quality.specs.declared.Quality.{Quality}
 use Rattle.quality.specs.Figures.{qualityOf, nothing}
 use Rattle.viterbi.proofs.Result.{decoded-length}
-use Rattle.fic_handler.specs.Blocks.{blockOf, depuncturedBlock, dataBits, countOf, passedBytes, Block, IsBlock, BlockProcessed, Lent, lent, written, total}
+use Rattle.fic_handler.specs.Blocks.{blockOf, depuncturedBlock, dataBits, countOf, passedBytes, Block, IsBlock, Lent, lent, written, total}
+use Rattle.fic_handler.specs.Code.{BlockProcessed}
 use Rattle.fic_handler.specs.Promise.{four, workAfter}
 use Rattle.fic_handler.proofs.Fibs.{count-le, passed-length}
 use Rattle.fic_handler.proofs.Blocks.{restored-length, data-length}

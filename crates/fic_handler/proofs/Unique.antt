@@ -1,4 +1,4 @@
--- Two results that the promise of `process_fic` allows are one: the answer, the counts, the records and every lent byte.
+-- Two results that the promise of `process_fic` allows are one: the answer, the counts, the records and every byte of the buffers.
 -- Assumes nothing.
 use mathlib.Core.Path.{_≡_, refl, sym, ap, ap₂, _∙_}
 use mathlib.Core.Bool.{Bool, true, false, cond}
@@ -17,7 +17,8 @@ use Rattle.fic_handler.specs.declared.Fic.{Fic}
 use Rattle.fic_handler.specs.declared.FicAnswer.{FicAnswer}
 use Rattle.fic_handler.specs.declared.FicAnswer.the-variants.{Fibs, Refused}
 use Rattle.fic_handler.specs.Blocks.{joined, depuncturedBlock, dataBits, countOf, Block, IsBlock, Lent, lent, total}
-use Rattle.fic_handler.specs.Promise.{answerOf, four, workAfter, processRefusal, Processed, Outcomes, FicPromise}
+use Rattle.fic_handler.specs.Promise.{answerOf, four, workAfter, processRefusal, Processed, Outcomes}
+use Rattle.fic_handler.specs.Theorems.{SameFic, FicUnique}
 use Rattle.fic_handler.proofs.Run.{total-ext, written-ext}
 
 -- an answer is one by what it says
@@ -54,10 +55,6 @@ work-ext xs k l (suc n) before h =
     (λ (x : Block). lent (depuncturedBlock xs n ++ drop 3096 (before .depunctured)) (x .choices ++ drop 774 (before .words)) ((dataBits (x .decoded) ++ drop 768 (x .decoded)) ++ drop 774 (before .bits)) (before .fibs))
     (h n (omega arith))
 
-pub record SameFic (r : Fic) (after : Lent) (s : Fic) (also : Lent) : Type 0 where
-  pub answer-is : r ≡ s
-  pub lent-is : after ≡ also
-
 processed-one : {xs : List ℤ} {n : ℕ} {before : Lent} {r s : Fic} {after also : Lent} → Processed xs n before r after → Processed xs n before s also → SameFic r after s also
 processed-one {xs} {n} {before} {r} {s} {after} {also} f g =
     record {
@@ -90,5 +87,5 @@ outcomes-one (suc k) xs before r s after also f g =
     }
 
 -- for every input the promise allows one result
-pub fic-unique : (s1 s2 s3 : List ℤ) (before : Lent) (r s : Fic) (after also : Lent) → FicPromise s1 s2 s3 before r after → FicPromise s1 s2 s3 before s also → SameFic r after s also
+pub fic-unique : FicUnique
 fic-unique s1 s2 s3 before r s after also f g = outcomes-one (processRefusal s1 s2 s3 before) (joined s1 s2 s3) before r s after also (f .outcome) (g .outcome)

@@ -1,2 +1,4 @@
 pub mod Blocks
+pub mod Code
 pub mod Promise
+pub mod Theorems

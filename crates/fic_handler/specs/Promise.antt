@@ -1,13 +1,13 @@
--- Document 01, fic/handler.rs, refusals 11 and 8, Room: what three symbols give.
+-- Document 01, fic/handler.rs, refusals 11 and 8, and the needed lengths: what three symbols give.
 use mathlib.Core.Path.{_≡_}
 use mathlib.Core.Bool.{cond}
 use mathlib.Core.List.{List, [], _∷_, _++_}
-use Prim.Native.Nat.{ℕ, zero, suc, _*_, _<_, _≤_}
+use Prim.Native.Nat.{ℕ, zero, suc, _*_, _<_}
 use lib.Dec.{ltb}
 use lib.ListN.{length, drop}
 use lib.IntN.{ℤ}
 use Rattle.laws.specs.Lists.{listOf}
-use Rattle.refusal.specs.Outcome.{check, firstOf, Outcome, gives, refuses}
+use Rattle.refusal.specs.Outcome.{check, firstOf, Outcome, gives, refuses, outcome as outcomeBy, unlessRefused}
 use Rattle.quality.specs.Figures.{qualityOf, nothing}
 use Rattle.fic_handler.specs.declared.FicAnswer.{FicAnswer}
 use Rattle.fic_handler.specs.declared.FicAnswer.the-variants.{Fibs, Refused}
@@ -18,7 +18,7 @@ use Rattle.fic_handler.specs.Blocks.{joined, blocksIn, depuncturedBlock,
 unfoldable pub tooLong : List ℤ → ℕ
 tooLong s = check 11 (ltb 3072 (length s))
 
--- 8: a lent buffer shorter than its room: 3,096 values, 774 words, 774 bits, and 96 bytes for each whole block
+-- 8: a buffer shorter than its needed length: 3,096 values, 774 words, 774 bits, and 96 bytes for each whole block
 unfoldable pub noRoom : ℕ → Lent → List ℕ
 noRoom blocks l =
     check 8 (ltb (length (l .depunctured)) 3096) ∷ check 8 (ltb (length (l .words)) 774) ∷ check 8 (ltb (length (l .bits)) 774) ∷ check 8 (ltb (length (l .fibs)) (96 * blocks)) ∷ []
@@ -60,26 +60,18 @@ pub record Processed (xs : List ℤ) (n : ℕ) (before : Lent) (r : Fic) (after 
   pub bits : after .bits ≡ workAfter xs block n before .bits
   pub fibs : after .fibs ≡ written block n ++ drop (32 * total block n) (before .fibs)
 
--- n blocks are there, and the lent memory has room for them
-pub record Room (n : ℕ) (xs : List ℤ) (l : Lent) : Type 0 where
-  pub few : n ≤ 4
-  pub whole : 2304 * n ≤ length xs
-  pub values : 3096 ≤ length (l .depunctured)
-  pub choices : 774 ≤ length (l .words)
-  pub places : 774 ≤ length (l .bits)
-  pub out : 96 * n ≤ length (l .fibs)
-
 -- a refusal's answer: its number, four zero counts and records
 pub record Away (number : ℕ) (r : Fic) : Type 0 where
   pub answer : answerOf (r .answer) ≡ refuses number
   pub passed : r .passed ≡ 0 ∷ 0 ∷ 0 ∷ 0 ∷ []
   pub quality : r .quality ≡ nothing ∷ nothing ∷ nothing ∷ nothing ∷ []
 
--- by the first refusal: none, and the whole blocks are processed; or one, and nothing is changed
+-- by the number of the first refusal: the whole blocks are processed, or nothing is changed
 unfoldable pub Outcomes : ℕ → List ℤ → Lent → Fic → Lent → Type 0
-Outcomes zero xs before r after = Processed xs (blocksIn xs) before r after
-Outcomes (suc number) xs before r after = Away (suc number) r × (after ≡ before)
+Outcomes n xs before r after = unlessRefused n (Processed xs (blocksIn xs) before r after) (Away n r × (after ≡ before))
 
--- the promise of `process_fic`
+-- the promise of `process_fic`: how many FIBs, or the first refusal; and what is written
 pub record FicPromise (s1 s2 s3 : List ℤ) (before : Lent) (r : Fic) (after : Lent) : Type 0 where
+  pub fibs : ℕ
+  pub answer : answerOf (r .answer) ≡ outcomeBy (processRefusal s1 s2 s3 before) fibs
   pub outcome : Outcomes (processRefusal s1 s2 s3 before) (joined s1 s2 s3) before r after

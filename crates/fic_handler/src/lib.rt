@@ -7,13 +7,17 @@ ghost use Rattle.laws.specs.Bits.{AreBits};
 ghost use Rattle.laws.specs.Integers.{at};
 ghost use Rattle.en300401.specs.Bytes.{bytesOfBits};
 ghost use Rattle.viterbi.specs.Decoders.{metricOf};
-ghost use Rattle.fic_handler.specs.Blocks.{joined, KeptFib, KeptFibs, BlockDecoded, BlockRoom, BlockProcessed, lent};
-ghost use Rattle.fic_handler.specs.Promise.{Room, Processed, Away, FicPromise};
+ghost use Rattle.fic_handler.specs.Blocks.{joined, lent};
+ghost use Rattle.fic_handler.specs.Code.{KeptFib, KeptFibs, BlockDecoded, BlockFits, BlockProcessed, BlocksFit};
+ghost use Rattle.fic_handler.specs.Promise.{Processed, Away, FicPromise};
 ghost use Rattle.quality.specs.Figures.{qualityOf};
 use quality::Measured;
 use quality::Quality;
 use refusal::Refusal;
 use viterbi::Decoding;
+
+// Soft values of a symbol: two for each carrier.
+const SYMBOL: usize = 2 * crc::K;
 
 pub enum FicAnswer {
     Fibs(usize),
@@ -42,7 +46,7 @@ fn value(first: &[i8], second: &[i8], third: &[i8], i: usize) -> i8
     third[j - second.len()]
 }
 
-// Room for a block. The promise gives only the length: what is put there is said by who fills it.
+// An array for a block. The promise gives only the length: what is put there is said by who fills it.
 fn empty_block() -> [i8; 2304]
     ensures { λ r. ⌜ 2304 ≡ length r ⌝ }
 {
@@ -149,7 +153,7 @@ fn process_block(
     bits: &mut [u8],
     fibs: &mut [u8],
 ) -> BlockAnswer
-    requires { ⌜ BlockRoom (length (now block)) (length (now depunctured)) (length (now words)) (length (now bits)) (length (now fibs)) ⌝ }
+    requires { ⌜ BlockFits (length (now block)) (length (now depunctured)) (length (now words)) (length (now bits)) (length (now fibs)) ⌝ }
     ensures { λ r. ⌜ BlockProcessed
         (now (block .entry))
         (lent (now (depunctured .entry)) (now (words .entry)) (now (bits .entry)) (now (fibs .entry)))
@@ -174,7 +178,7 @@ fn process_blocks(
     bits: &mut [u8],
     fibs: &mut [u8],
 ) -> Fic
-    requires { ⌜ Room n (joined (now first) (now second) (now third)) (lent (now depunctured) (now words) (now bits) (now fibs)) ⌝ }
+    requires { ⌜ BlocksFit n (joined (now first) (now second) (now third)) (lent (now depunctured) (now words) (now bits) (now fibs)) ⌝ }
     ensures { λ r. ⌜ Processed
         (joined (now (first .entry)) (now (second .entry)) (now (third .entry)))
         n
@@ -240,13 +244,13 @@ pub fn process_fic(
         r
         (lent (now (depunctured .exit)) (now (words .exit)) (now (bits .exit)) (now (fibs .exit))) ⌝ }
 {
-    if 3072 < first.len() {
+    if SYMBOL < first.len() {
         return turned_away(11);
     }
-    if 3072 < second.len() {
+    if SYMBOL < second.len() {
         return turned_away(11);
     }
-    if 3072 < third.len() {
+    if SYMBOL < third.len() {
         return turned_away(11);
     }
     let n = (first.len() + (second.len() + third.len())) / 2304;

@@ -1,27 +1,27 @@
--- FIC handling: from the room's answer to a number and to figures in their places.
+-- FIC handling: from the handler's answer to a number and to figures in their places.
 -- Assumes nothing.
 use mathlib.Core.Path.{_≡_, refl, sym, ap, ap₂, _∙_, subst}
-use mathlib.Core.Bool.{Bool, true, false}
 use mathlib.Core.List.{List, [], _∷_, _++_}
 use Prim.Native.Nat.{ℕ, zero, suc, _+_, _*_, _<_, _≤_}
 use native.Mathlib.Omega.{arith}
-use native.Mathlib.Decide.{decLt}
-use borrow.Author.Tests.{lt-ltb, le-ltb}
+use borrow.Author.Tests.{lt-ltb, le-ltb, ltb-false}
 use lib.Dec.{ltb}
-use lib.ListN.{length, set, drop}
+use lib.ListN.{length, set, take, drop, length-take, length-drop, take-append-drop, drop-of-length-le}
+use lib.Seq.{sets, take-set-le, take-set-lt, drop-set-add, drop-set-lt, drop-drop}
 use lib.IntN.{ℤ}
 use lib.Ieee.{Float}
 use Rattle.laws.specs.Lists.{listFrom, listOf}
-use Rattle.refusal.specs.Outcome.{Outcome, gives, refuses, check, orElse, firstOf}
-use Rattle.refusal.specs.declared.Refusal.{Refusal}
+use Rattle.laws.proofs.Lists.{sets-front}
+use Rattle.refusal.specs.Outcome.{unlessRefused, numberOf, orElse, firstOf}
+use Rattle.refusal.proofs.Checks.{clean, zeroed, later, held-not, same-check, no-more, only, passed-by}
+use Rattle.refusal.proofs.Laws.{orElse-assoc, orElse-zero, or-either, first-append, done-by, untouched-by, done-of, untouched-of}
 use Rattle.quality.specs.declared.Quality.{Quality}
 use Rattle.fic_handler.specs.declared.Fic.{Fic}
-use Rattle.fic_handler.specs.declared.FicAnswer.{FicAnswer}
-use Rattle.fic_handler.specs.declared.FicAnswer.the-variants.{Fibs, Refused}
 use Rattle.fic_handler.specs.Blocks.{joined, blocksIn, Lent}
 use Rattle.fic_handler.specs.Promise.{tooLong, noRoom, processRefusal, answerOf, Outcomes, FicPromise}
-use Rattle.figure_places.specs.Code.{fewOf, noFigures, firstFour, PutQuality, countsPut, pastEnd, PutAll, EnoughFigures, FiguresPut, FicTold}
-use Rattle.figure_places.specs.Fic.{Figures, fewFigures, ficNumber, fibsIn, metricsOf, percentsOf, FicCall}
+use Rattle.places.specs.Places.{short}
+use Rattle.figure_places.specs.Code.{fewOf, noFigures, firstFour, PutQuality, countsPut, pastEnd, PutAll, EnoughFigures, FiguresPut, FiguresTold}
+use Rattle.figure_places.specs.Fic.{Figures, fewFigures, ficNumber, fibsIn, metricsOf, percentsOf, FicUntouched, FicWritten, FicCall}
 
 -- the tests of the three symbols
 pub first-over : (a b c : List ℤ) → 3072 < length a → 11 ≡ noFigures a b c
@@ -54,90 +54,70 @@ pub none-few : (counts metrics percents : ℕ) → 5 ≤ counts → 8 ≤ metric
 none-few counts metrics percents h k m = rw (le-ltb _ _ h, le-ltb _ _ k, le-ltb _ _ m) refl
 
 -- a refusal there is 8
-only-eight : (counts metrics percents : ℕ) → (fewOf counts metrics percents ≡ 0 → ⊥) → fewOf counts metrics percents ≡ 8
-only-eight counts metrics percents = go (ltb counts 5) (ltb metrics 8) (ltb percents 4)
-  where
-    go : (x y z : Bool) → (firstOf (check 8 x ∷ check 8 y ∷ check 8 z ∷ []) ≡ 0 → ⊥) → firstOf (check 8 x ∷ check 8 y ∷ check 8 z ∷ []) ≡ 8
-    go true y z h = refl
-    go false true z h = refl
-    go false false true h = refl
-    go false false false h = absurd (h refl)
+only-eight : (f : Figures) → (fewFigures f ≡ 0 → ⊥) → fewFigures f ≡ 8
+only-eight f h = only 7 (same-check (ltb (length (f .counts)) 5) (same-check (ltb (length (f .metrics)) 8) (same-check (ltb (length (f .percents)) 4) no-more))) h
 
 pub enough-figures : (f : Figures) → fewFigures f ≡ 0 → EnoughFigures f
-enough-figures f e = go (decLt (length (f .counts)) 5) (decLt (length (f .metrics)) 8) (decLt (length (f .percents)) 4)
-  where
-    none : 8 ≡ fewFigures f → ⊥
-    none z = omega (arith, z, e)
+enough-figures f e =
+    let n = clean (short 5 (length (f .counts)) ∷ short 8 (length (f .metrics)) ∷ short 4 (length (f .percents)) ∷ []) e in
+    let n1 = later n in
+    record {
+      counts-long = ltb-false (length (f .counts)) 5 (held-not 7 (ltb (length (f .counts)) 5) (zeroed n));
+      metrics-long = ltb-false (length (f .metrics)) 8 (held-not 7 (ltb (length (f .metrics)) 8) (zeroed n1));
+      percents-long = ltb-false (length (f .percents)) 4 (held-not 7 (ltb (length (f .percents)) 4) (zeroed (later n1)));
+    }
 
-    go : Dec (length (f .counts) < 5) → Dec (length (f .metrics) < 8) → Dec (length (f .percents) < 4) → EnoughFigures f
-    go (yes h) y z = absurd (none (few-counts (length (f .counts)) (length (f .metrics)) (length (f .percents)) h))
-    go (no h) (yes k) z = absurd (none (few-metrics (length (f .counts)) (length (f .metrics)) (length (f .percents)) (omega (arith, h)) k))
-    go (no h) (no k) (yes m) = absurd (none (few-percents (length (f .counts)) (length (f .metrics)) (length (f .percents)) (omega (arith, h)) (omega (arith, k)) m))
-    go (no h) (no k) (no m) = record { counts-long = omega (arith, h); metrics-long = omega (arith, k); percents-long = omega (arith, m) }
-
-no-figures-positive : (a b c : List ℤ) → 0 < noFigures a b c
-unfolding tooLong
-no-figures-positive a b c = go (ltb 3072 (length a)) (ltb 3072 (length b)) (ltb 3072 (length c))
-  where
-    go : (x y z : Bool) → 0 < orElse (firstOf (check 11 x ∷ check 11 y ∷ check 11 z ∷ [])) 8
-    go true y z = omega arith
-    go false true z = omega arith
-    go false false true = omega arith
-    go false false false = omega arith
-
+-- then the number is 11 where a symbol is too long, and else 8 whatever the handler's own buffers are
 no-figures-number : (a b c : List ℤ) (l : Lent) (f : Figures) → fewFigures f ≡ 8 → noFigures a b c ≡ ficNumber a b c l f
-unfolding ficNumber processRefusal tooLong noRoom
+unfolding ficNumber processRefusal noRoom
 no-figures-number a b c l f e =
-    subst (λ (m : ℕ). noFigures a b c ≡ orElse (processRefusal a b c l) m) (sym e)
-    (go (ltb 3072 (length a)) (ltb 3072 (length b)) (ltb 3072 (length c)) (ltb (length (l .depunctured)) 3096) (ltb (length (l .words)) 774) (ltb (length (l .bits)) 774) (ltb (length (l .fibs)) (96 * blocksIn (joined a b c))))
-  where
-    go : (x y z s t u v : Bool) → orElse (firstOf (check 11 x ∷ check 11 y ∷ check 11 z ∷ [])) 8 ≡ orElse (firstOf (check 11 x ∷ check 11 y ∷ check 11 z ∷ check 8 s ∷ check 8 t ∷ check 8 u ∷ check 8 v ∷ [])) 8
-    go true y z s t u v = refl
-    go false true z s t u v = refl
-    go false false true s t u v = refl
-    go false false false true t u v = refl
-    go false false false false true u v = refl
-    go false false false false false true v = refl
-    go false false false false false false true = refl
-    go false false false false false false false = refl
+    let over = tooLong a ∷ tooLong b ∷ tooLong c ∷ [] in
+    let lent = noRoom (blocksIn (joined a b c)) l in
+    let each = same-check (ltb (length (l .depunctured)) 3096) (same-check (ltb (length (l .words)) 774) (same-check (ltb (length (l .bits)) 774) (same-check (ltb (length (l .fibs)) (96 * blocksIn (joined a b c))) no-more))) in
+    sym
+    (ap (orElse (processRefusal a b c l)) e ∙ ap (λ (n : ℕ). orElse n 8) (first-append over lent) ∙ orElse-assoc (firstOf over) (firstOf lent) 8
+    ∙ ap (orElse (firstOf over)) (passed-by 7 each))
 
 pub fic-away : {a b c : List ℤ} {l : Lent} (f : Figures) (k : ℕ) {n : ℕ} → n ≡ fewFigures f → (n ≡ 0 → ⊥) → k ≡ noFigures a b c → FicCall a b c l f k l f
 fic-away {a} {b} {c} {l} f k e h q =
+    let m = no-figures-number a b c l f (only-eight f (λ z. h (e ∙ z))) in
+    let over = firstOf (tooLong a ∷ tooLong b ∷ tooLong c ∷ []) in
     record {
-      answer = q ∙ no-figures-number a b c l f (only-eight (length (f .counts)) (length (f .metrics)) (length (f .percents)) (λ z. h (e ∙ z)));
-      refused = λ p. record { lent-is = refl; figures-are = refl };
-      finished = λ p. absurd (omega (arith, no-figures-positive a b c, q, p));
+      answer = q ∙ m;
+      left = untouched-by (FicWritten a b c l f l f) (FicUntouched l f l f) (ficNumber a b c l f) (λ z. or-either over 8 (λ y. absurd (omega (arith, y))) (m ∙ z)) (record { lent-is = refl; figures-are = refl });
     }
 
--- five counts, and four records, in their places
-pub five-set : (a b c d e : ℕ) (xs : List ℕ) → 5 ≤ length xs → set (set (set (set (set xs 0 a) 1 b) 2 c) 3 d) 4 e ≡ (a ∷ b ∷ c ∷ d ∷ e ∷ []) ++ drop 5 xs
-five-set a b c d e (x0 ∷ x1 ∷ x2 ∷ x3 ∷ x4 ∷ xs) l = refl
-five-set a b c d e [] l = absurd (omega arith)
-five-set a b c d e (x0 ∷ []) l = absurd (omega arith)
-five-set a b c d e (x0 ∷ x1 ∷ []) l = absurd (omega arith)
-five-set a b c d e (x0 ∷ x1 ∷ x2 ∷ []) l = absurd (omega arith)
-five-set a b c d e (x0 ∷ x1 ∷ x2 ∷ x3 ∷ []) l = absurd (omega arith)
-
+-- the metrics and sums of four records, each pair written together: the front four places take the metrics, the next four the sums
 abbrev pair : Quality → ℕ → List ℤ → List ℤ
 pair q i xs = set (set xs i (q .metric)) (4 + i) (q .sum)
 
-pairs-set : (p q r s : Quality) (xs : List ℤ) → 8 ≤ length xs → pair s 3 (pair r 2 (pair q 1 (pair p 0 xs))) ≡ metricsOf (p ∷ q ∷ r ∷ s ∷ []) ++ drop 8 xs
-pairs-set p q r s (x0 ∷ x1 ∷ x2 ∷ x3 ∷ x4 ∷ x5 ∷ x6 ∷ x7 ∷ xs) l = refl
-pairs-set p q r s [] l = absurd (omega arith)
-pairs-set p q r s (x0 ∷ []) l = absurd (omega arith)
-pairs-set p q r s (x0 ∷ x1 ∷ []) l = absurd (omega arith)
-pairs-set p q r s (x0 ∷ x1 ∷ x2 ∷ []) l = absurd (omega arith)
-pairs-set p q r s (x0 ∷ x1 ∷ x2 ∷ x3 ∷ []) l = absurd (omega arith)
-pairs-set p q r s (x0 ∷ x1 ∷ x2 ∷ x3 ∷ x4 ∷ []) l = absurd (omega arith)
-pairs-set p q r s (x0 ∷ x1 ∷ x2 ∷ x3 ∷ x4 ∷ x5 ∷ []) l = absurd (omega arith)
-pairs-set p q r s (x0 ∷ x1 ∷ x2 ∷ x3 ∷ x4 ∷ x5 ∷ x6 ∷ []) l = absurd (omega arith)
+pair-front : (q : Quality) (i : ℕ) (xs : List ℤ) → i < 4 → take 4 (pair q i xs) ≡ set (take 4 xs) i (q .metric)
+pair-front q i xs h = take-set-le 4 (set xs i (q .metric)) (4 + i) (q .sum) (omega arith) ∙ take-set-lt 4 xs i (q .metric) h
 
-four-set : (a b c d : Float) (xs : List Float) → 4 ≤ length xs → set (set (set (set xs 0 a) 1 b) 2 c) 3 d ≡ (a ∷ b ∷ c ∷ d ∷ []) ++ drop 4 xs
-four-set a b c d (x0 ∷ x1 ∷ x2 ∷ x3 ∷ xs) l = refl
-four-set a b c d [] l = absurd (omega arith)
-four-set a b c d (x0 ∷ []) l = absurd (omega arith)
-four-set a b c d (x0 ∷ x1 ∷ []) l = absurd (omega arith)
-four-set a b c d (x0 ∷ x1 ∷ x2 ∷ []) l = absurd (omega arith)
+pair-next : (q : Quality) (i : ℕ) (xs : List ℤ) → i < 4 → drop 4 (pair q i xs) ≡ set (drop 4 xs) i (q .sum)
+pair-next q i xs h = drop-set-add 4 (set xs i (q .metric)) i (q .sum) ∙ ap (λ (l : List ℤ). set l i (q .sum)) (drop-set-lt 4 xs i (q .metric) h)
+
+module _ (p q r s : Quality) (xs : List ℤ) where
+  abbrev whole : List ℤ
+  whole = pair s 3 (pair r 2 (pair q 1 (pair p 0 xs)))
+
+  front : take 4 whole ≡ sets (take 4 xs) 0 (p .metric ∷ q .metric ∷ r .metric ∷ s .metric ∷ [])
+  front =
+      pair-front s 3 (pair r 2 (pair q 1 (pair p 0 xs))) (omega arith)
+      ∙ ap (λ (l : List ℤ). set l 3 (s .metric)) (pair-front r 2 (pair q 1 (pair p 0 xs)) (omega arith) ∙ ap (λ (l : List ℤ). set l 2 (r .metric)) (pair-front q 1 (pair p 0 xs) (omega arith) ∙ ap (λ (l : List ℤ). set l 1 (q .metric)) (pair-front p 0 xs (omega arith))))
+
+  next : drop 4 whole ≡ sets (drop 4 xs) 0 (p .sum ∷ q .sum ∷ r .sum ∷ s .sum ∷ [])
+  next =
+      pair-next s 3 (pair r 2 (pair q 1 (pair p 0 xs))) (omega arith)
+      ∙ ap (λ (l : List ℤ). set l 3 (s .sum)) (pair-next r 2 (pair q 1 (pair p 0 xs)) (omega arith) ∙ ap (λ (l : List ℤ). set l 2 (r .sum)) (pair-next q 1 (pair p 0 xs) (omega arith) ∙ ap (λ (l : List ℤ). set l 1 (q .sum)) (pair-next p 0 xs (omega arith))))
+
+  pairs-set : 8 ≤ length xs → whole ≡ metricsOf (p ∷ q ∷ r ∷ s ∷ []) ++ drop 8 xs
+  pairs-set h =
+      let ms = p .metric ∷ q .metric ∷ r .metric ∷ s .metric ∷ [] in
+      let ss = p .sum ∷ q .sum ∷ r .sum ∷ s .sum ∷ [] in
+      sym (take-append-drop 4 whole)
+      ∙ ap₂ (λ (a b : List ℤ). a ++ b) (front ∙ sets-front ms (take 4 xs) (omega (arith, length-take 4 xs))) (next ∙ sets-front ss (drop 4 xs) (omega (arith, length-drop 4 xs)))
+      ∙ ap₂ (λ (a b : List ℤ). (ms ++ a) ++ (ss ++ b)) (drop-of-length-le (take 4 xs) {i = 4} (omega (arith, length-take 4 xs))) (drop-drop 4 4 xs)
 
 pub record PutFour (p q r s : Quality) (metrics : List ℤ) (percents : List Float) (metrics' : List ℤ) (percents' : List Float) : Type 0 where
   pub metrics-are : metrics' ≡ metricsOf (p ∷ q ∷ r ∷ s ∷ []) ++ drop 8 metrics
@@ -161,7 +141,7 @@ four-put {p} {q} {r} {s} {m} {x = x} h k d1 d2 d3 d4 =
       percents-are =
           d4 .percents-are
           ∙ ap (λ (v : List Float). set v 3 (s .percent)) (d3 .percents-are ∙ ap (λ (v : List Float). set v 2 (r .percent)) (d2 .percents-are ∙ ap (λ (v : List Float). set v 1 (q .percent)) (d1 .percents-are)))
-          ∙ four-set _ _ _ _ x k;
+          ∙ sets-front (p .percent ∷ q .percent ∷ r .percent ∷ s .percent ∷ []) x k;
     }
 
 pub as-all : {p q r s : Quality} {m m' : List ℤ} {x x' : List Float} (qs : List Quality) → p ∷ q ∷ r ∷ s ∷ [] ≡ firstFour pastEnd qs → PutFour p q r s m x m' x' → PutAll qs m x m' x'
@@ -176,62 +156,43 @@ four-whole : {A : Type 0} (xs : List A) (d : A) (h : ℕ → A) → xs ≡ listO
 unfolding listFrom
 four-whole {A} xs d h e = subst (λ (ys : List A). firstFour d ys ≡ ys) (sym e) refl
 
-not-both : {A : Type 0} (k t : ℕ) → _≡_ {A = Outcome ℕ} (refuses k) (gives t) → A
-not-both k t e = let z : _≡_ {A = ℕ} 0 1 = cc in absurd (omega arith)
+-- the handler's answer, told
+module _ (a b c : List ℤ) (l : Lent) (f : Figures) (enough : fewFigures f ≡ 0) (r : Fic) (after : Lent) where
+  number-is : ficNumber a b c l f ≡ processRefusal a b c l
+  unfolding ficNumber
+  number-is = ap (orElse (processRefusal a b c l)) enough ∙ orElse-zero (processRefusal a b c l)
 
-same-number : (k t : ℕ) → _≡_ {A = Outcome ℕ} (refuses k) (refuses t) → k ≡ t
-same-number k t e = cc
-
-module _ {a b c : List ℤ} {l : Lent} (r : Fic) {after : Lent} (f : Figures) (enough : fewFigures f ≡ 0) where
-  refused-by : (x : Refusal) → r .answer ≡ Refused x → (n : ℕ) → processRefusal a b c l ≡ n → Outcomes n (joined a b c) l r after → FicCall a b c l f (x .number) after f
-  unfolding Outcomes ficNumber
-  refused-by x q zero e o = not-both (x .number) _ (sym (ap answerOf q) ∙ o .answer)
-  refused-by x q (suc n) e o =
-      let z : x .number ≡ suc n = same-number (x .number) (suc n) (sym (ap answerOf q) ∙ o .0 .answer) in
+  told-by : (n : ℕ) → processRefusal a b c l ≡ n → Outcomes n (joined a b c) l r after → FicPromise a b c l r after → {k : ℕ} {f' : Figures} → FiguresTold r f f' k → FicCall a b c l f k after f'
+  unfolding Outcomes
+  told-by zero e o p {k} {f'} t =
+      let z = ap numberOf (o .answer) in
+      let d = done-of (FiguresPut r f f') (f' ≡ f) (numberOf (answerOf (r .answer))) z (t .figures) in
       record {
-        answer = z ∙ sym (ap (λ (m : ℕ). orElse m (fewFigures f)) e);
-        refused = λ p. record { lent-is = o .1; figures-are = refl };
-        finished = λ p. absurd (omega (arith, z, p));
+        answer = t .answer ∙ z ∙ sym (number-is ∙ e);
+        left =
+            done-by (FicWritten a b c l f after f') (FicUntouched l f after f') (ficNumber a b c l f) (number-is ∙ e)
+            (record {
+              fic = r;
+              processed = p;
+              counts-are = d .counts-are ∙ ap (λ (xs : List ℕ). (fibsIn (r .answer) ∷ xs) ++ drop 5 (f .counts)) (four-whole (r .passed) 0 _ (o .passed));
+              metrics-are = d .records .metrics-are ∙ ap (λ (qs : List Quality). metricsOf qs ++ drop 8 (f .metrics)) (four-whole (r .quality) pastEnd _ (o .quality));
+              percents-are = d .records .percents-are ∙ ap (λ (qs : List Quality). percentsOf qs ++ drop 4 (f .percents)) (four-whole (r .quality) pastEnd _ (o .quality));
+            });
+      }
+  told-by (suc n) e o p {k} {f'} t =
+      let z = ap numberOf (o .0 .answer) in
+      let kept = untouched-of (FiguresPut r f f') (f' ≡ f) (numberOf (answerOf (r .answer))) (λ y. absurd (omega (arith, z, y))) (t .figures) in
+      record {
+        answer = t .answer ∙ z ∙ sym (number-is ∙ e);
+        left = untouched-by (FicWritten a b c l f after f') (FicUntouched l f after f') (ficNumber a b c l f) (λ y. absurd (omega (arith, number-is ∙ e, y))) (record { lent-is = o .1; figures-are = kept });
       }
 
-  done-by :
-      (n : ℕ) → r .answer ≡ Fibs n → (f' : Figures) → f' .counts ≡ countsPut n (r .passed) (f .counts)
-      → PutAll (r .quality) (f .metrics) (f .percents) (f' .metrics) (f' .percents)
-      → FicPromise a b c l r after
-      → (m : ℕ) → processRefusal a b c l ≡ m → Outcomes m (joined a b c) l r after → FicCall a b c l f 0 after f'
-  unfolding Outcomes ficNumber
-  done-by n q f' counts rest p (suc m) e o = not-both (suc m) n (sym (o .0 .answer) ∙ ap answerOf q)
-  done-by n q f' counts rest p zero e o =
-      record {
-        answer = sym (ap (λ (m : ℕ). orElse m (fewFigures f)) e ∙ enough);
-        refused = λ h. absurd (omega (arith, h));
-        finished = λ h. record {
-          fic = r;
-          processed = p;
-          counts-are = counts ∙ ap₂ (λ (m : ℕ) (xs : List ℕ). (m ∷ xs) ++ drop 5 (f .counts)) (sym (ap fibsIn q)) (four-whole (r .passed) 0 _ (o .passed));
-          metrics-are = rest .metrics-are ∙ ap (λ (qs : List Quality). metricsOf qs ++ drop 8 (f .metrics)) (four-whole (r .quality) pastEnd _ (o .quality));
-          percents-are = rest .percents-are ∙ ap (λ (qs : List Quality). percentsOf qs ++ drop 4 (f .percents)) (four-whole (r .quality) pastEnd _ (o .quality));
-        };
-      }
-
-  -- whatever it answers, told
-  answered : (x : FicAnswer) → r .answer ≡ x → (k : ℕ) (f' : Figures) → FicPromise a b c l r after → FicTold x r f f' k → FicCall a b c l f k after f'
-  unfolding FicTold
-  answered (Refused x) q k f' p t =
-      subst (λ (g : Figures). FicCall a b c l f k after g) (sym (t .1))
-      (subst (λ (m : ℕ). FicCall a b c l f m after f) (sym (t .0)) (refused-by x q (processRefusal a b c l) refl (p .outcome)))
-  answered (Fibs n) q k f' p t =
-      subst (λ (m : ℕ). FicCall a b c l f m after f') (sym (t .0))
-      (done-by n q f' (t .1 .counts-are) (t .1 .records) p (processRefusal a b c l) refl (p .outcome))
-
-  pub fic-told : FicPromise a b c l r after → (k : ℕ) (f' : Figures) → FicTold (r .answer) r f f' k → FicCall a b c l f k after f'
-  fic-told p k f' t = answered (r .answer) refl k f' p t
+pub fic-told : {a b c : List ℤ} {l : Lent} {after : Lent} (f : Figures) → fewFigures f ≡ 0 → (r : Fic) → FicPromise a b c l r after → {k : ℕ} {f' : Figures} → FiguresTold r f f' k → FicCall a b c l f k after f'
+fic-told {a} {b} {c} {l} {after} f enough r p t = told-by a b c l f enough r after (processRefusal a b c l) refl (p .outcome) p t
 
 -- an answer, as it is written
-pub told-refused : (x : FicAnswer) (r : Fic) (y : Refusal) → x ≡ Refused y → (f : Figures) → FicTold x r f f (y .number)
-unfolding FicTold
-told-refused x r y q f = rw q (refl, refl)
+pub told-refused : (r : Fic) (f : Figures) {k : ℕ} → k ≡ numberOf (answerOf (r .answer)) → (k ≡ 0 → ⊥) → FiguresTold r f f k
+told-refused r f e h = record { answer = e; figures = untouched-by (FiguresPut r f f) (f ≡ f) (numberOf (answerOf (r .answer))) (λ z. h (e ∙ z)) refl }
 
-pub told-fibs : (x : FicAnswer) (r : Fic) (n : ℕ) → x ≡ Fibs n → {f f' : Figures} → FiguresPut n r f f' → FicTold x r f f' 0
-unfolding FicTold
-told-fibs x r n q d = rw q (refl, d)
+pub told-fibs : (r : Fic) {f f' : Figures} {k : ℕ} → k ≡ numberOf (answerOf (r .answer)) → k ≡ 0 → FiguresPut r f f' → FiguresTold r f f' 0
+told-fibs r {f} {f'} e z d = record { answer = sym z ∙ e; figures = done-by (FiguresPut r f f') (f' ≡ f) (numberOf (answerOf (r .answer))) (sym e ∙ z) d }

@@ -5,14 +5,12 @@ use Prim.Native.Nat.{ℕ, _+_, _≤_}
 use lib.ListN.{length, getD, drop, set}
 use lib.IntN.{ℤ, pos}
 use lib.Ieee.{Float, nan}
-use Rattle.refusal.specs.Outcome.{orElse, firstOf}
+use Rattle.refusal.specs.Outcome.{orElse, firstOf, unlessRefused, numberOf}
 use Rattle.quality.specs.declared.Quality.{Quality}
 use Rattle.fic_handler.specs.declared.Fic.{Fic}
-use Rattle.fic_handler.specs.declared.FicAnswer.{FicAnswer}
-use Rattle.fic_handler.specs.declared.FicAnswer.the-variants.{Fibs, Refused}
-use Rattle.fic_handler.specs.Promise.{tooLong}
+use Rattle.fic_handler.specs.Promise.{tooLong, answerOf}
 use Rattle.places.specs.Places.{short}
-use Rattle.figure_places.specs.Fic.{Figures, metricsOf, percentsOf}
+use Rattle.figure_places.specs.Fic.{Figures, fibsIn, metricsOf, percentsOf}
 
 -- too few places for the figures, by how many there are
 abbrev pub fewOf : ℕ → ℕ → ℕ → ℕ
@@ -51,11 +49,12 @@ pub record EnoughFigures (f : Figures) : Type 0 where
   pub metrics-long : 8 ≤ length (f .metrics)
   pub percents-long : 4 ≤ length (f .percents)
 
--- the figures told
-pub record FiguresPut (n : ℕ) (r : Fic) (f f' : Figures) : Type 0 where
-  pub counts-are : f' .counts ≡ countsPut n (r .passed) (f .counts)
+-- the figures of an answer in their places
+pub record FiguresPut (r : Fic) (f f' : Figures) : Type 0 where
+  pub counts-are : f' .counts ≡ countsPut (fibsIn (r .answer)) (r .passed) (f .counts)
   pub records : PutAll (r .quality) (f .metrics) (f .percents) (f' .metrics) (f' .percents)
 
-unfoldable pub FicTold : FicAnswer → Fic → Figures → Figures → ℕ → Type 0
-FicTold (Fibs n) r f f' number = (number ≡ 0) × FiguresPut n r f f'
-FicTold (Refused x) r f f' number = (number ≡ x .number) × (f' ≡ f)
+-- by the answer's number: refused with all as it was, or told
+pub record FiguresTold (r : Fic) (f f' : Figures) (number : ℕ) : Type 0 where
+  pub answer : number ≡ numberOf (answerOf (r .answer))
+  pub figures : unlessRefused (numberOf (answerOf (r .answer))) (FiguresPut r f f') (f' ≡ f)

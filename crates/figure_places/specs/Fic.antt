@@ -1,11 +1,11 @@
 -- docs/DECISIONS.md, "For C": what document 01's FIC handling returns and writes, its figures into places of their own, and 8 for those.
 use mathlib.Core.Path.{_≡_}
 use mathlib.Core.List.{List, [], _∷_, _++_, map}
-use Prim.Native.Nat.{ℕ, _<_}
+use Prim.Native.Nat.{ℕ}
 use lib.ListN.{length, drop}
 use lib.IntN.{ℤ}
 use lib.Ieee.{Float}
-use Rattle.refusal.specs.Outcome.{orElse, firstOf}
+use Rattle.refusal.specs.Outcome.{orElse, firstOf, unlessRefused}
 use Rattle.quality.specs.declared.Quality.{Quality}
 use Rattle.fic_handler.specs.declared.Fic.{Fic}
 use Rattle.fic_handler.specs.declared.FicAnswer.{FicAnswer}
@@ -51,7 +51,7 @@ pub record FicUntouched (before : Lent) (f : Figures) (after : Lent) (f' : Figur
   pub lent-is : after ≡ before
   pub figures-are : f' ≡ f
 
--- done: as the room promises, and the figures of its answer before the rest as it was
+-- done: as the handler promises, and the figures of its answer before the rest as it was
 pub record FicWritten (s1 s2 s3 : List ℤ) (before : Lent) (f : Figures) (after : Lent) (f' : Figures) : Type 0 where
   pub fic : Fic
   pub processed : FicPromise s1 s2 s3 before fic after
@@ -61,5 +61,4 @@ pub record FicWritten (s1 s2 s3 : List ℤ) (before : Lent) (f : Figures) (after
 
 pub record FicCall (s1 s2 s3 : List ℤ) (before : Lent) (f : Figures) (number : ℕ) (after : Lent) (f' : Figures) : Type 0 where
   pub answer : number ≡ ficNumber s1 s2 s3 before f
-  pub refused : 0 < number → FicUntouched before f after f'
-  pub finished : number ≡ 0 → FicWritten s1 s2 s3 before f after f'
+  pub left : unlessRefused (ficNumber s1 s2 s3 before f) (FicWritten s1 s2 s3 before f after f') (FicUntouched before f after f')

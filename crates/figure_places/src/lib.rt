@@ -1,10 +1,12 @@
-// FIC handling over plain numbers: the room's function, with its figures in lent places.
+// FIC handling over plain numbers: the handler's function, with its figures in the caller's places.
 ghost use mathlib.Core.Path.{_≡_};
 ghost use Prim.Native.Nat.{_<_, _≤_};
 ghost use lib.ListN.{length};
+ghost use Rattle.refusal.specs.Outcome.{numberOf};
 ghost use Rattle.fic_handler.specs.Blocks.{lent};
-ghost use Rattle.figure_places.specs.Code.{fewOf, noFigures, countsPut, PutQuality, PutAll, EnoughFigures, FicTold};
-ghost use Rattle.figure_places.specs.Fic.{figures, FicCall};
+ghost use Rattle.fic_handler.specs.Promise.{answerOf};
+ghost use Rattle.figure_places.specs.Code.{fewOf, noFigures, countsPut, PutQuality, PutAll, EnoughFigures, FiguresTold};
+ghost use Rattle.figure_places.specs.Fic.{figures, fibsIn, FicCall};
 use fic_handler::Fic;
 use fic_handler::FicAnswer;
 use quality::Quality;
@@ -77,22 +79,41 @@ fn put_qualities(quality: [Quality; 4], metrics: &mut [i32], percents: &mut [f64
     put_quality(q3, 3, &mut *metrics, &mut *percents);
 }
 
+// The number of a refusal, 0 where there is none.
+fn refusal_in(answer: FicAnswer) -> u8
+    ensures { λ r. ⌜ r ≡ numberOf (answerOf answer) ⌝ }
+{
+    match answer {
+        FicAnswer::Refused(r) => r.number,
+        FicAnswer::Fibs(_) => 0,
+    }
+}
+
+// How many FIBs, 0 where it was refused.
+fn fibs_in(answer: FicAnswer) -> usize
+    ensures { λ r. ⌜ r ≡ fibsIn answer ⌝ }
+{
+    match answer {
+        FicAnswer::Refused(_) => 0,
+        FicAnswer::Fibs(n) => n,
+    }
+}
+
 // What three symbols have come to: the figures in their places, or the refusal's number.
 fn put_fic(fic: Fic, counts: &mut [u64], metrics: &mut [i32], percents: &mut [f64]) -> u8
     requires { ⌜ EnoughFigures (figures (now counts) (now metrics) (now percents)) ⌝ }
-    ensures { λ r. ⌜ FicTold (fic .answer) fic (figures (now (counts .entry)) (now (metrics .entry)) (now (percents .entry))) (figures (now (counts .exit)) (now (metrics .exit)) (now (percents .exit))) r ⌝ }
+    ensures { λ r. ⌜ FiguresTold fic (figures (now (counts .entry)) (now (metrics .entry)) (now (percents .entry))) (figures (now (counts .exit)) (now (metrics .exit)) (now (percents .exit))) r ⌝ }
 {
     let answer = fic.answer;
     let passed = fic.passed;
     let quality = fic.quality;
-    match answer {
-        FicAnswer::Refused(r) => r.number,
-        FicAnswer::Fibs(n) => {
-            put_counts(n, passed, counts);
-            put_qualities(quality, metrics, percents);
-            0
-        }
+    let number = refusal_in(answer);
+    if number != 0 {
+        return number;
     }
+    put_counts(fibs_in(answer), passed, counts);
+    put_qualities(quality, metrics, percents);
+    0
 }
 
 // Three symbols to checked FIBs: 11, then 8.

@@ -1,165 +1,103 @@
--- Sender and receiver meet again after any loss, as a caller of the library sees it: its calls are those of the rooms, and a state that was written is the state that is read.
+-- Sender and receiver meet again after any loss, as a caller of the library sees it.
 -- Assumes nothing.
-use mathlib.Core.Path.{_≡_, refl, sym, ap, _∙_, subst}
-use mathlib.Core.Bool.{false}
-use mathlib.Core.List.{List, [], _∷_}
-use Prim.Native.Nat.{ℕ, _*_, _≤_}
+use mathlib.Core.Path.{_≡_, refl, sym, ap, ap₂, _∙_, subst}
+use mathlib.Core.List.{List, _∷_, _++_}
+use Prim.Native.Nat.{ℕ, _*_}
 use native.Mathlib.Omega.{arith}
-use borrow.Author.Tests.{le-ltb}
-use lib.ListN.{length, drop}
+use lib.ListN.{drop}
 use lib.IntN.{ℤ}
 use lib.Ieee.{Float}
-use Rattle.laws.proofs.Lists.{rejoined}
-use Rattle.refusal.specs.Outcome.{outcome, unlessRefused, check, orElse}
-use Rattle.refusal.proofs.Laws.{orElse-zero}
-use Rattle.en300401.specs.Interleaving.{symbolBits}
+use Rattle.refusal.specs.Outcome.{gives}
 use Rattle.protection.specs.declared.Description.{Description}
-use Rattle.protection.specs.declared.Judged.the-variants.{«Accepted» as judged-accepted}
-use Rattle.msc_state.specs.declared.State.{State}
-use Rattle.msc_state.specs.States.{freshState, setUpRefusal, resetRefusal}
-use Rattle.msc_state.proofs.Refusals.{clean, zeroed, later}
-use Rattle.msc_set_up.specs.declared.SetUp.{SetUp}
-use Rattle.msc_set_up.specs.Promises.{Prepared, cleared}
+use Rattle.msc_state.specs.States.{stateAfter}
 use Rattle.msc_handler.specs.declared.Answer.{Answer}
 use Rattle.msc_handler.specs.declared.Answer.the-variants.{Waiting, Frame, Refused}
-use Rattle.msc_handler.specs.Promises.{framed, saidOf, Buffers, completes, turnOf, FeedPromise}
-use Rattle.places.specs.Places.{short}
-use Rattle.state_numbers.specs.Code.{InRange}
-use Rattle.state_numbers.specs.Numbers.{numbersOf, stateIn, outOfRange, statePut}
-use Rattle.state_numbers.proofs.Numbers.{written-read, written-long, written-fits}
-use Rattle.state_places.specs.Msc.{Readied, setUpNumber, resetNumber, feedNumber, FedPlaces, bytesIn, FeedWritten}
-use Rattle.agreement.specs.Sender.{Sender}
-use Rattle.agreement.specs.Calls.{Held, held, Came, came, after, HeldCall, History, set-up as room-set-up, reset as room-reset, fed as room-fed, Sixteen, RoomIn}
-use Rattle.agreement.proofs.Accepting.{never-refused, then-completes}
-use Rattle.agreement.proofs.Agreement.{agreement}
-use Rattle.agreement.proofs.Symbols.{state-sound, symbols-begun, description-is}
-use Rattle.library_agreement.specs.Calls.{Kept, kept, KeptCall, RefusedCall, set-up-refused, reset-refused, feed-refused, LibraryHistory, set-up, reset, refused, fed, Written, Fits}
+use Rattle.msc_handler.specs.Promises.{waiting, framed, saidOf, Buffers}
+use Rattle.state_numbers.specs.Numbers.{stateIn, statePut}
+use Rattle.state_places.specs.Msc.{FedPlaces, fedPlaces, bytesIn, percentPut}
+use Rattle.agreement.specs.Answers.{Call, callOf, Waits, Yields}
+use Rattle.agreement.proofs.Accepting.{then-completes}
+use Rattle.agreement.proofs.Agreement.{agreement, agreement-in-its-words, same-frame, earlier-forgotten}
+use Rattle.library_agreement.specs.Answers.{Seen, seenOf, Waited, Written}
+use Rattle.library_agreement.specs.Calls.{Kept, KeptCall}
+use Rattle.library_agreement.specs.Theorems.{LibraryAgreement, LibraryAgreementInItsWords, LibraryAgreementComes, LibrarySameFrame, LibraryEarlierForgotten}
+use Rattle.library_agreement.proofs.Histories.{heldOf, same-state, wrote, in-crate, as-crates, library-never-refused}
 
--- what the rooms' caller would hold
-abbrev heldOf : Kept → Held
-heldOf h = held (stateIn (h .state)) (h .cif) (h .ring)
+-- ---- what a call below tells the library's caller
 
--- ---- a set-up or reset that answers 0
+pub record Told (c : Seen) (k : Call) : Type 0 where
+  pub answer : c .number ≡ 0
+  pub state-is : stateIn (c .places .state) ≡ k .state
+  pub told : c .places' ≡ fedPlaces (statePut (k .fed .state) (c .places .state)) (bytesIn (k .fed .answer) ∷ drop 1 (c .places .lengths)) (percentPut (k .fed .answer) (c .places .percents))
+  pub frame-before : c .frame ≡ k .frame
+  pub frame-after : c .frame' ≡ k .frame'
 
-abbrev done : Description → SetUp
-done d = record { state = freshState d; answer = judged-accepted }
+said-waiting : (a : Answer) → saidOf a ≡ gives waiting → a ≡ Waiting
+said-waiting Waiting e = refl
+said-waiting (Frame m q) e = let z : _≡_ {A = ℕ} 0 1 = cc in absurd (omega arith)
+said-waiting (Refused m) e = let z : _≡_ {A = ℕ} 0 1 = cc in absurd (omega arith)
 
-prepared : {n : ℕ} {d : Description} {other : State} {ring ring' : List ℤ} → n ≡ 0 → ring' ≡ cleared d ring → Prepared n d other ring (done d) ring'
-prepared {n} {d} {other} {ring} {ring'} z e =
+said-framed : (a : Answer) (n : ℕ) (p : Float) → saidOf a ≡ gives (framed n p) → a ≡ Frame n p
+said-framed Waiting n p e = let z : _≡_ {A = ℕ} 0 1 = cc in absurd (omega arith)
+said-framed (Frame m q) n p e =
+    let x : m ≡ n = cc in
+    let y : q ≡ p = cc in
+    ap₂ Frame x y
+said-framed (Refused m) n p e = let z : _≡_ {A = ℕ} 0 1 = cc in absurd (omega arith)
+
+-- the numbers, the length and the percentage of an answer that is known
+told-as : {c : Seen} {k : Call} → Told c k → (a : Answer) → k .fed .answer ≡ a → k .fed .state ≡ stateAfter (k .state)
+    → c .places' ≡ fedPlaces (statePut (stateAfter (stateIn (c .places .state))) (c .places .state)) (bytesIn a ∷ drop 1 (c .places .lengths)) (percentPut a (c .places .percents))
+told-as {c} {k} t a e m =
+    let s : k .fed .state ≡ stateAfter (stateIn (c .places .state)) = m ∙ ap stateAfter (sym (t .state-is)) in
+    t .told ∙ (λ i. fedPlaces (statePut (s i) (c .places .state)) (bytesIn (e i) ∷ drop 1 (c .places .lengths)) (percentPut (e i) (c .places .percents)))
+
+pub told-waits : {c : Seen} {k : Call} → Told c k → Waits k → Waited c
+told-waits {c} {k} t w = record { answer = t .answer; told = told-as t Waiting (said-waiting (k .fed .answer) (w .answer)) (w .moved); untouched = t .frame-after ∙ w .untouched ∙ sym (t .frame-before) }
+
+pub told-yields : {d : Description} {bytes : List ℕ} {c : Seen} {k : Call} → Told c k → Yields d bytes k → Written d bytes c
+told-yields {d} {bytes} {c} {k} t y =
     record {
-      answer = ap (λ (m : ℕ). outcome m tt) (sym z);
-      state = ap (λ (m : ℕ). unlessRefused m (freshState d) other) (sym z);
-      ring-is = e ∙ ap (λ (m : ℕ). unlessRefused m (cleared d ring) ring) (sym z);
+      percent = y .percent;
+      answer = t .answer;
+      told = told-as t (Frame (3 * d .bitrate) (y .percent)) (said-framed (k .fed .answer) (3 * d .bitrate) (y .percent) (y .answer)) (y .moved);
+      written = t .frame-after ∙ y .written ∙ ap (λ (old : List ℕ). bytes ++ drop (3 * d .bitrate) old) (sym (t .frame-before));
     }
 
--- what is left, by the number that was answered
-module _ {n : ℕ} {d : Description} {ring : List ℤ} {state : List ℕ} {number : ℕ} {ring' : List ℤ} {state' : List ℕ} (p : Readied n d ring state number ring' state') where
-  ring-by : ring' ≡ unlessRefused number (cleared d ring) ring
-  ring-by = p .ring-is ∙ ap (λ (m : ℕ). unlessRefused m (cleared d ring) ring) (sym (p .answer))
-
-  state-by : state' ≡ unlessRefused number (statePut (freshState d) state) state
-  state-by = p .state-is ∙ ap (λ (m : ℕ). unlessRefused m (statePut (freshState d) state) state) (sym (p .answer))
-
-set-up-none : (d : Description) (ring state : ℕ) → 0 ≡ setUpNumber d ring state → setUpRefusal d ring ≡ 0
-unfolding setUpNumber
-set-up-none d ring state e = zeroed (clean (setUpRefusal d ring ∷ short 11 state ∷ []) (ap (orElse (setUpRefusal d ring)) (orElse-zero (short 11 state)) ∙ sym e))
-
-reset-none : (state : List ℕ) (ring : ℕ) → 0 ≡ resetNumber state ring → resetRefusal (stateIn state) ring ≡ 0
-unfolding resetNumber
-reset-none state ring e = zeroed (later (later (clean (short 11 (length state) ∷ check 10 (outOfRange state) ∷ resetRefusal (stateIn state) ring ∷ []) (sym e))))
-
--- ---- the calls, one by one
-
--- what was written is read
-read-back : (s : State) (xs : List ℕ) {ys : List ℕ} → ys ≡ statePut s xs → stateIn ys ≡ s
-read-back s xs e = ap stateIn e ∙ written-read s xs
-
--- a refused call leaves what was kept
-as-kept : {h h' : Kept} → RefusedCall h h' → h' ≡ h
-as-kept {h} (set-up-refused n j k d ring' state' p) = λ x. kept (rejoined j (state-by p) x) (h .cif) (rejoined k (ring-by p) x)
-as-kept {h} (reset-refused n j k ring' state' p) = λ x. kept (rejoined j (state-by p) x) (h .cif) (rejoined k (ring-by p) x)
-as-kept (feed-refused n i j k soft b f b' f' s c r p) =
-    let u = p .refused (omega arith) in
-    λ x. kept (rejoined j (ap (λ (q : FedPlaces). q .state) (u .places-are) ∙ s) x) (rejoined i (ap (λ (q : Buffers). q .cif) (u .lent-is) ∙ c) x) (rejoined k (ap (λ (q : Buffers). q .ring) (u .lent-is) ∙ r) x)
-
--- a call that answers 0 is one of the room's
-module _ {h : Kept} {soft : List ℤ} {b : Buffers} {f : FedPlaces} {b' : Buffers} {f' : FedPlaces} (call : KeptCall h soft b f 0 b' f') where
-  wrote : FeedWritten soft b f b' f'
-  wrote = call .promise .finished refl
-
-  in-room : HeldCall (heldOf h) soft b (wrote .fed) b'
-  in-room = record { cif-kept = call .cif-kept; ring-kept = call .ring-kept; promise = subst (λ (xs : List ℕ). FeedPromise (stateIn xs) soft b (wrote .fed) b') (call .state-kept) (wrote .promise) }
-
--- the library's calls are the rooms'
-pub as-rooms : {d : Description} {h : Kept} {c : Came} → LibraryHistory d h c → History d (heldOf h) c
-as-rooms {d} (set-up state cif ring ring' state' p) =
-    subst (λ (s : State). History d (held s cif ring') (came [] [])) (sym (read-back (freshState d) state (state-by p)))
-    (room-set-up cif ring (done d) ring' (prepared (set-up-none d (length ring) (length state) (p .answer)) (ring-by p)) refl)
-as-rooms {d} (reset state cif ring ring' state' q p) =
-    subst (λ (s : State). History d (held s cif ring') (came [] [])) (sym (read-back (freshState (stateIn state .channel .description)) state (state-by p)))
-    (room-reset (stateIn state) cif ring (done (stateIn state .channel .description)) ring' q (prepared (reset-none state (length ring) (p .answer)) (ring-by p)) refl)
-as-rooms {d} {c = c} (refused x q) = subst (λ (h : Kept). History d (heldOf h) c) (sym (as-kept q)) (as-rooms x)
-as-rooms {d} (fed {h} {c} soft b f b' f' x call) =
-    subst (λ (s : State). History d (held s (b' .cif) (b' .ring)) (after (turnOf (stateIn (h .state)) soft b) soft c)) (sym (read-back (wrote call .fed .state) (f .state) (wrote call .state-is)))
-    (room-fed soft b (wrote call .fed) b' (as-rooms x) (in-room call))
-
--- ---- the theorem for the library's caller
-
-bytes-said : (a : Answer) (n : ℕ) (p : Float) → saidOf a ≡ framed n p → bytesIn a ≡ n
-bytes-said Waiting n p e = let z : _≡_ {A = ℕ} 0 1 = cc in absurd (omega arith)
-bytes-said (Frame m q) n p e = cc
-bytes-said (Refused m) n p e = let z : _≡_ {A = ℕ} 0 1 = cc in absurd (omega arith)
-
--- since set-up or reset the last sixteen CIFs were the sender's CIFs r to r + 15, as far as frame r goes; then the call that makes the next CIF whole writes frame r and its byte count
-pub library-agreement : {d : Description} {h : Kept} {c : Came} → LibraryHistory d h c → (s : Sender d) (r : ℕ) → Sixteen d s r (c .cifs)
-    → {soft : List ℤ} {b : Buffers} {f : FedPlaces} {b' : Buffers} {f' : FedPlaces} → KeptCall h soft b f 0 b' f' → turnOf (stateIn (h .state)) soft b ≡ completes → Written d (s .frames r) f b' f'
-library-agreement {d} x s r n {f = f} call whole =
+pub told-of : {d : Description} {h : Kept} {soft : List ℤ} {b : Buffers} {f : FedPlaces} {b' : Buffers} {f' : FedPlaces} (call : KeptCall d h soft b f 0 b' f') → Told (seenOf b f 0 b' f') (callOf (stateIn (h .state)) b (wrote call .fed) b')
+told-of call =
     let w = wrote call in
-    let y = agreement (as-rooms x) s r n (in-room call) whole in
-    record { count = w .lengths-are ∙ ap (λ (m : ℕ). m ∷ drop 1 (f .lengths)) (bytes-said (w .fed .answer) (3 * d .bitrate) (y .percent) (y .answer)); bytes = y .bytes }
+    record { answer = refl; state-is = same-state call; told = λ i. fedPlaces (w .state-is i) (w .lengths-are i) (w .percents-are i); frame-before = refl; frame-after = refl }
 
--- ---- and it is not refused
+-- ---- the theorems
 
--- the kept numbers are those of the state that they are read as
-record Put (xs : List ℕ) : Type 0 where
-  rest : List ℕ
-  is : xs ≡ statePut (stateIn xs) rest
+pub library-agreement : LibraryAgreement
+library-agreement d h c x s r frame n soft b f b' f' call whole = told-yields (told-of call) (agreement d (heldOf h) c (as-crates x) s r frame n soft b (wrote call .fed) b' (in-crate call) whole)
 
-put : (s : State) (xs : List ℕ) {ys : List ℕ} → ys ≡ statePut s xs → Put ys
-put s xs e = record { rest = xs; is = e ∙ ap (λ (t : State). statePut t xs) (sym (read-back s xs e)) }
+pub library-agreement-in-its-words : LibraryAgreementInItsWords
+library-agreement-in-its-words d h c x s r frame n soft b f b' f' call whole = told-yields (told-of call) (agreement-in-its-words d (heldOf h) c (as-crates x) s r frame n soft b (wrote call .fed) b' (in-crate call) whole)
 
-kept-put : {d : Description} {h : Kept} {c : Came} → LibraryHistory d h c → Put (h .state)
-kept-put {d} (set-up state cif ring ring' state' p) = put (freshState d) state (state-by p)
-kept-put (reset state cif ring ring' state' q p) = put (freshState (stateIn state .channel .description)) state (state-by p)
-kept-put (refused x q) = subst (λ (h : Kept). Put (h .state)) (sym (as-kept q)) (kept-put x)
-kept-put (fed soft b f b' f' x call) = put (wrote call .fed .state) (f .state) (wrote call .state-is)
+pub library-agreement-comes : LibraryAgreementComes
+library-agreement-comes d h c fits x s r frame n seventeen soft b f number b' f' full =
+    let zero : number ≡ 0 = library-never-refused d h c fits x soft b f number b' f' full in
+    let call : KeptCall d h soft b f 0 b' f' = subst (λ (m : ℕ). KeptCall d h soft b f m b' f') zero (full .call) in
+    subst (λ (m : ℕ). Written d (s .frames r) (seenOf b f m b' f')) (sym zero) (library-agreement d h c x s r frame n soft b f b' f' call (then-completes (as-crates x) soft b (full .lengths) (full .long) seventeen))
 
-module _ {d : Description} {h : Kept} {c : Came} (x : LibraryHistory d h c) where
-  eleven : 11 ≤ length (h .state)
-  eleven = let p = kept-put x in subst (λ (xs : List ℕ). 11 ≤ length xs) (sym (p .is)) (written-long (stateIn (h .state)) (p .rest))
+pub library-same-frame : LibrarySameFrame
+library-same-frame d h h₂ c c₂ x x₂ s r frame n n₂ soft soft₂ b b₂ f f₂ b' b₂' f' f₂' call call₂ whole whole₂ =
+    same-frame d (heldOf h) (heldOf h₂) c c₂ (as-crates x) (as-crates x₂) s r frame n n₂ soft soft₂ b b₂ (wrote call .fed) (wrote call₂ .fed) b' b₂' (in-crate call) (in-crate call₂) whole whole₂
 
-  in-range : Fits d → outOfRange (h .state) ≡ false
-  unfolding numbersOf
-  in-range fits =
-      let p = kept-put x in
-      ap outOfRange (p .is) ∙ written-fits (stateIn (h .state)) (p .rest) each
-    where
-      each : InRange (numbersOf (stateIn (h .state)))
-      each =
-          let k = state-sound (as-rooms x) in
-          let g = subst Fits (sym (description-is (as-rooms x))) fits in
-          record { symbols = omega (arith, k .symbols); in-frame = omega (arith, k .in-frame); index = omega (arith, k .index); count = omega (arith, k .count); start = g .start; size = g .size; rate = g .rate; level = g .level; option = g .option }
-
--- with its full room, 3,072 values and seventeen symbols before it the call answers 0 and writes the frame
-pub library-agreement-comes : {d : Description} → Fits d → {h : Kept} {c : Came} → LibraryHistory d h c → (s : Sender d) (r : ℕ) → Sixteen d s r (c .cifs) → length (c .begun) ≡ 17
-    → {soft : List ℤ} {b : Buffers} {f : FedPlaces} {number : ℕ} {b' : Buffers} {f' : FedPlaces} → KeptCall h soft b f number b' f' → RoomIn d b → symbolBits ≤ length soft → 1 ≤ length (f .lengths) → 1 ≤ length (f .percents)
-    → (number ≡ 0) × Written d (s .frames r) f b' f'
-unfolding feedNumber
-library-agreement-comes {d} fits {h} x s r n seventeen {soft} {b} {f} {number} {b'} {f'} call room long some one =
-    (none, library-agreement x s r n (subst (λ (m : ℕ). KeptCall h soft b f m b' f') none call) (then-completes (as-rooms x) soft b room long (omega (arith, symbols-begun (as-rooms x), seventeen))))
+pub library-earlier-forgotten : LibraryEarlierForgotten
+unfolding told-yields
+library-earlier-forgotten d h h₂ c c₂ x x₂ n n₂ alike soft soft₂ b b₂ f f₂ b' b₂' f' f₂' call call₂ whole whole₂ =
+    let same = earlier-forgotten d (heldOf h) (heldOf h₂) c c₂ (as-crates x) (as-crates x₂) n n₂ alike soft soft₂ b b₂ (wrote call .fed) (wrote call₂ .fed) b' b₂' (in-crate call) (in-crate call₂) whole whole₂ in
+    record {
+      bytes = same .bytes;
+      size = same .size;
+      first = told-yields (told-of call) (same .first);
+      second = told-yields (told-of call₂) (same .second);
+      percent-one = one-percent (sym (same .first .answer) ∙ same .said-one ∙ same .second .answer);
+    }
   where
-    taken : feedNumber (h .state) soft b (length (f .lengths)) (length (f .percents)) ≡ 0
-    taken = rw (le-ltb (length (h .state)) 11 (eleven x), le-ltb (length (f .lengths)) 1 some, le-ltb (length (f .percents)) 1 one, in-range x fits, never-refused (as-rooms x) soft b room long) refl
-
-    none : number ≡ 0
-    none = call .promise .answer ∙ ap (λ (xs : List ℕ). feedNumber xs soft b (length (f .lengths)) (length (f .percents))) (call .state-kept) ∙ taken
+    one-percent : {n m : ℕ} {p q : Float} → gives (framed n p) ≡ gives (framed m q) → p ≡ q
+    one-percent e = cc

@@ -1,1 +1,4 @@
 pub mod Agreement
+pub mod Histories
+pub mod Numbers
+pub mod Stream

@@ -13,6 +13,8 @@ use lib.Ieee.{Float}
 use Rattle.laws.proofs.Lists.{length-listOf}
 use Rattle.en300401.specs.Puncturing.{mask, depuncture}
 use Rattle.protection.specs.Refusals.{profileOf, roomOf}
+use Rattle.refusal.specs.Outcome.{gives, refuses, outcome, numberOf}
+use Rattle.refusal.proofs.Laws.{refused-by}
 use Rattle.viterbi.specs.Decoders.{endsOf}
 use Rattle.msc_handler.specs.declared.Answer.{Answer}
 use Rattle.msc_handler.specs.declared.Answer.the-variants.{Waiting, Frame, Refused}
@@ -20,7 +22,7 @@ use Rattle.msc_state.specs.declared.Channel.{Channel}
 use Rattle.msc_handler.specs.declared.Fed.{Fed}
 use Rattle.msc_state.specs.declared.State.{State}
 use Rattle.msc_handler.specs.Frames.{Framed}
-use Rattle.msc_handler.specs.Promises.{Said, waiting, framed, saidOf, Buffers, buffers, refusalIn, Turn, refuses, gathers, completes, turnAt, turnOf, stretchOf, delayed, gathered, rotated, depuncturedOf, Completed, CifPromise, Feeds, FeedPromise}
+use Rattle.msc_handler.specs.Promises.{Said, waiting, framed, saidOf, Buffers, buffers, refusalIn, stepOf, gathers, completes, Turn, turnOf, stretchOf, delayed, gathered, rotated, depuncturedOf, Completed, CifPromise, Feeds, FeedPromise}
 use Rattle.msc_handler.specs.Ring.{stored, readOut, refilled}
 use Rattle.msc_state.specs.States.{valuesOf, whole, due, stateAfter}
 use Rattle.msc_handler.proofs.Frames.{framed-unique}
@@ -35,10 +37,10 @@ module _ (c : Channel) (b : Buffers) where
   n = valuesOf (c .description)
 
   module _ {ring' read' : List ℤ} (filled : ring' ≡ refilled (b .ring) n (c .«ring_index») (stretchOf (c .description) (b .cif))) (read : read' ≡ delayed c (b .ring) ++ drop n (b .deinterleaved)) where
-    pub cif-waits : c .«cif_count» < 16 → CifPromise c b waiting (buffers (b .cif) ring' read' (b .depunctured) (b .words) (b .bits) (b .frame))
+    pub cif-waits : c .«cif_count» < 16 → CifPromise c b (gives waiting) (buffers (b .cif) ring' read' (b .depunctured) (b .words) (b .bits) (b .frame))
     unfolding Completed
     cif-waits h =
-        subst (λ (d : Bool). Completed d c b waiting (buffers (b .cif) ring' read' (b .depunctured) (b .words) (b .bits) (b .frame))) (sym (lt-leb 16 (c .«cif_count») h))
+        subst (λ (d : Bool). Completed d c b (gives waiting) (buffers (b .cif) ring' read' (b .depunctured) (b .words) (b .bits) (b .frame))) (sym (lt-leb 16 (c .«cif_count») h))
         (refl, λ i. buffers (b .cif) (filled i) (read i) (b .depunctured) (b .words) (b .bits) (b .frame))
 
     values-are : take n read' ≡ delayed c (b .ring)
@@ -50,12 +52,12 @@ module _ (c : Channel) (b : Buffers) where
 
     pub cif-frames : {dep' : List ℤ} {words' bits' frame' : List ℕ} {p : Float} → 16 ≤ c .«cif_count» → dep' ≡ values ++ drop (roomOf (c .description)) (b .depunctured)
         → Framed (endsOf (c .description .«is_eep»)) (c .description .bitrate) values (b .words) (b .bits) (b .frame) p words' bits' frame'
-        → CifPromise c b (framed (3 * c .description .bitrate) p) (buffers (b .cif) ring' read' dep' words' bits' frame')
+        → CifPromise c b (gives (framed (3 * c .description .bitrate) p)) (buffers (b .cif) ring' read' dep' words' bits' frame')
     unfolding Completed
     cif-frames {dep'} {words'} {bits'} {frame'} {p} h d f =
         let same : values ≡ depuncturedOf c (b .ring) = ap (depuncture (mask (profileOf (c .description)))) values-are in
         let dep-is : dep' ≡ depuncturedOf c (b .ring) ++ drop (roomOf (c .description)) (b .depunctured) = d ∙ ap (λ (v : List ℤ). v ++ drop (roomOf (c .description)) (b .depunctured)) same in
-        subst (λ (e : Bool). Completed e c b (framed (3 * c .description .bitrate) p) (buffers (b .cif) ring' read' dep' words' bits' frame')) (sym (le-leb 16 (c .«cif_count») h))
+        subst (λ (e : Bool). Completed e c b (gives (framed (3 * c .description .bitrate) p)) (buffers (b .cif) ring' read' dep' words' bits' frame')) (sym (le-leb 16 (c .«cif_count») h))
         (record {
           percent = p;
           words' = words';
@@ -70,15 +72,11 @@ module _ (c : Channel) (b : Buffers) where
 module _ (s : State) (soft : List ℤ) (b : Buffers) where
   refused-turn : {k : ℕ} → k ≡ refusalIn s soft b → (k ≡ 0 → ⊥) → turnOf s soft b ≡ refuses k
   unfolding turnOf
-  refused-turn {k} e h = ap (λ (n : ℕ). turnAt n (whole s)) (sym e) ∙ go k h
-    where
-      go : (k : ℕ) → (k ≡ 0 → ⊥) → turnAt k (whole s) ≡ refuses k
-      go zero h = absurd (h refl)
-      go (suc k) h = refl
+  refused-turn {k} e h = sym (refused-by (refusalIn s soft b) (stepOf (whole s)) k e h)
 
-  accepted-turn : {w : Bool} → refusalIn s soft b ≡ 0 → whole s ≡ w → turnOf s soft b ≡ turnAt 0 w
+  accepted-turn : {w : Bool} → refusalIn s soft b ≡ 0 → whole s ≡ w → turnOf s soft b ≡ gives (stepOf w)
   unfolding turnOf
-  accepted-turn e f = λ i. turnAt (e i) (f i)
+  accepted-turn e f = λ i. outcome (e i) (stepOf (f i))
 
   by-turn : {t : Turn} {r : Fed} {b' : Buffers} → turnOf s soft b ≡ t → Feeds t s soft b (r .state) (saidOf (r .answer)) b' → FeedPromise s soft b r b'
   by-turn {t} {r} {b'} e f = record { feeds = subst (λ (u : Turn). Feeds u s soft b (r .state) (saidOf (r .answer)) b') (sym e) f }
@@ -117,6 +115,17 @@ unfolding Completed
 completed-stores false c b said b' x = (ap (λ (q : Buffers). q .cif) (x .1), ap (λ (q : Buffers). q .ring) (x .1), ap (λ (q : Buffers). q .deinterleaved) (x .1))
 completed-stores true c b said b' x = (ap (λ (q : Buffers). q .cif) (x .lent), ap (λ (q : Buffers). q .ring) (x .lent), ap (λ (q : Buffers). q .deinterleaved) (x .lent))
 
+completed-number : (d : Bool) (c : Channel) (b : Buffers) (said : Said) (b' : Buffers) → Completed d c b said b' → numberOf said ≡ 0
+unfolding Completed
+completed-number false c b said b' x = ap numberOf (x .0)
+completed-number true c b said b' x = ap numberOf (x .answer)
+
+fed-said : (n : ℕ) (w : Bool) (s : State) (soft : List ℤ) (b : Buffers) (s' : State) (said : Said) (b' : Buffers) → Feeds (outcome n (stepOf w)) s soft b s' said b' → numberOf said ≡ n
+unfolding Feeds
+fed-said (suc n) w s soft b s' said b' x = ap numberOf (x .1)
+fed-said zero false s soft b s' said b' x = ap numberOf (x .1)
+fed-said zero true s soft b s' said b' x = completed-number (due (s .channel)) (s .channel) (gathered s soft b) said b' (x .1)
+
 module _ (s : State) (soft : List ℤ) (b : Buffers) {r : Fed} {b' : Buffers} (p : FeedPromise s soft b r b') where
   in-turn : (t : Turn) → turnOf s soft b ≡ t → Feeds t s soft b (r .state) (saidOf (r .answer)) b'
   in-turn t e = subst (λ (u : Turn). Feeds u s soft b (r .state) (saidOf (r .answer)) b') e (p .feeds)
@@ -130,15 +139,20 @@ module _ (s : State) (soft : List ℤ) (b : Buffers) {r : Fed} {b' : Buffers} (p
   pub fed-gathers : refusalIn s soft b ≡ 0 → s .symbols < 17 → Gathered s soft b (r .state) b'
   unfolding Feeds
   fed-gathers none h =
-      let x = in-turn gathers (accepted-turn s soft b none (lt-leb 17 (s .symbols) h)) in
+      let x = in-turn (gives gathers) (accepted-turn s soft b none (lt-leb 17 (s .symbols) h)) in
       record { moved = x .0; kept = ap (λ (q : Buffers). q .cif) (x .2); ring-same = ap (λ (q : Buffers). q .ring) (x .2) }
 
   pub fed-completes : refusalIn s soft b ≡ 0 → 17 ≤ s .symbols → Finished s soft b (r .state) b'
   unfolding Feeds
   fed-completes none h =
-      let x = in-turn completes (accepted-turn s soft b none (le-leb 17 (s .symbols) h)) in
+      let x = in-turn (gives completes) (accepted-turn s soft b none (le-leb 17 (s .symbols) h)) in
       let y = completed-stores (due (s .channel)) (s .channel) (gathered s soft b) (saidOf (r .answer)) b' (x .1) in
       record { moved = x .0; kept = y .0; ring-is = y .1; read-is = y .2 }
+
+  -- the answer's number is that of the first refusal
+  pub fed-number : numberOf (saidOf (r .answer)) ≡ refusalIn s soft b
+  unfolding turnOf
+  fed-number = fed-said (refusalIn s soft b) (whole s) s soft b (r .state) (saidOf (r .answer)) b' (p .feeds)
 
 -- two answers that say the same are the same
 said-unique : (a a₂ : Answer) → saidOf a ≡ saidOf a₂ → a ≡ a₂
@@ -175,15 +189,15 @@ completed-unique true c b x y =
     let u = framed-unique (x .framing) (y .framing) in
     let rest : List ℤ = depuncturedOf c (b .ring) ++ drop (roomOf (c .description)) (b .depunctured) in
     record {
-      said-one = x .answer ∙ ap (framed (3 * c .description .bitrate)) (u .percent-one) ∙ sym (y .answer);
+      said-one = x .answer ∙ ap (λ (p : Float). gives (framed (3 * c .description .bitrate) p)) (u .percent-one) ∙ sym (y .answer);
       left-one = x .lent ∙ (λ i. buffers (rotated c b .cif) (rotated c b .ring) (rotated c b .deinterleaved) rest (u .words-one i) (u .bits-one i) (u .frame-one i)) ∙ sym (y .lent);
     }
 
 turn-unique : (t : Turn) (s : State) (soft : List ℤ) (b : Buffers) {r r₂ : Fed} {b' b₂ : Buffers} → Feeds t s soft b (r .state) (saidOf (r .answer)) b' → Feeds t s soft b (r₂ .state) (saidOf (r₂ .answer)) b₂ → SameFed r r₂ b' b₂
 unfolding Feeds
 turn-unique (refuses k) s soft b x y = same (x .0 ∙ sym (y .0)) (x .1 ∙ sym (y .1)) (x .2 ∙ sym (y .2))
-turn-unique gathers s soft b x y = same (x .0 ∙ sym (y .0)) (x .1 ∙ sym (y .1)) (x .2 ∙ sym (y .2))
-turn-unique completes s soft b x y =
+turn-unique (gives gathers) s soft b x y = same (x .0 ∙ sym (y .0)) (x .1 ∙ sym (y .1)) (x .2 ∙ sym (y .2))
+turn-unique (gives completes) s soft b x y =
     let u = completed-unique (due (s .channel)) (s .channel) (gathered s soft b) (x .1) (y .1) in
     same (x .0 ∙ sym (y .0)) (u .said-one) (u .left-one)
 

@@ -1,45 +1,44 @@
 -- From what the callees leave to a frame, its words and its bits; and that there is one frame only.
 -- Assumes nothing.
 use mathlib.Core.Path.{_≡_, sym, ap, ap₂, _∙_, subst}
-use mathlib.Core.Bool.{Bool, cond}
 use mathlib.Core.List.{List, _++_}
 use Prim.Native.Nat.{ℕ, _*_, _/_, _≤_}
 use native.Mathlib.Omega.{arith}
-use borrow.Author.Tests.{le-leb}
 use lib.ListN.{length, take, drop}
 use lib.Seq.{length-take-le, take-at, take-append-le, drop-append-le}
 use lib.IntN.{ℤ}
 use lib.Ieee.{Float}
+use Rattle.laws.specs.Bits.{AreBits}
+use Rattle.laws.proofs.Bits.{below-take}
+use Rattle.en300401.specs.Bytes.{bytesOfBits}
 use Rattle.en300401.specs.Dispersal.{disperse}
 use Rattle.spec_trellis.specs.Trellis.{Ends}
-use Rattle.en300401.proofs.Dispersal.{disperse-length}
+use Rattle.en300401.proofs.Dispersal.{disperse-length, disperse-bits}
 use Rattle.packing.specs.Bytes.{bytesOf, packed}
-use Rattle.quality.specs.Figures.{sumAbs, percentOf, qualityOf, measured}
+use Rattle.packing.proofs.Answers.{packed-is}
+use Rattle.packing.proofs.Bits.{bytes-of-bits}
+use Rattle.quality.specs.Figures.{sumAbs, percentOf, measuredAs, measured}
 use Rattle.quality.specs.declared.Measured.{Measured}
-use Rattle.quality.specs.declared.Measured.the-variants.{Is, «Refused» as not-measured}
-use Rattle.viterbi.specs.Decoders.{steps, answerOf, Decoded, metricOf}
+use Rattle.quality.proofs.Answers.{is-measured}
+use Rattle.viterbi.specs.Decoders.{steps, decodedAs, Decoded, metricOf}
 use Rattle.viterbi.specs.declared.Decoding.{Decoding}
-use Rattle.viterbi.proofs.Result.{Left, Finished, finished, bits-one, metric-one, words-one, decoded-length}
+use Rattle.viterbi.proofs.Result.{Left, Finished, finished, bits-one, metric-one, words-one, decoded-length, decoded-bits}
 use Rattle.msc_handler.specs.Frames.{frameBits, Framed, FrameRoom, percentIn}
 use Rattle.msc_state.specs.States.{stepsOf}
 
 -- what is packed, where it fits
 pack-fits : (xs out : List ℕ) (k : ℕ) → length xs / 8 ≡ k → k ≤ length out → packed xs out ≡ bytesOf xs ++ drop k out
-unfolding packed
-pack-fits xs out k e h =
-    ap (λ (b : Bool). cond b (bytesOf xs ++ drop (length xs / 8) out) out) (le-leb (length xs / 8) (length out) (omega arith))
-    ∙ ap (λ (m : ℕ). bytesOf xs ++ drop m out) e
+pack-fits xs out k e h = packed-is xs out (omega arith) ∙ ap (λ (m : ℕ). bytesOf xs ++ drop m out) e
 
 -- what is measured, of few enough values
-measure-fits : (m : ℤ) (xs : List ℤ) → length xs / 4 ≤ 65536 → percentIn (measured m xs) ≡ percentOf m (sumAbs xs)
-unfolding measured
-measure-fits m xs h = ap (λ (b : Bool). percentIn (cond b (Is (qualityOf m xs)) (not-measured (record { number = 11 })))) (le-leb (length xs / 4) 65536 h)
+measure-fits : (q : Measured) (m : ℤ) (xs : List ℤ) → length xs / 4 ≤ 65536 → measuredAs q ≡ measured m xs → percentIn q ≡ percentOf m (sumAbs xs)
+measure-fits q m xs h e = ap percentIn (is-measured q m xs h e)
 
 module _ {rate : ℕ} {soft : List ℤ} {words bits frame : List ℕ} (room : FrameRoom rate soft words bits frame) where
   steps-are : steps soft ≡ stepsOf rate
   steps-are = omega (arith, room .soft-long)
 
-  ended : {ends : Ends} (r : Decoding) {words' bits' : List ℕ} → Decoded ends soft words bits (answerOf r) words' bits' → Finished ends soft words bits r words' bits'
+  ended : {ends : Ends} (r : Decoding) {words' bits' : List ℕ} → Decoded ends soft words bits (decodedAs r) words' bits' → Finished ends soft words bits r words' bits'
   ended r d = finished r (omega (arith, room .few, steps-are)) (omega (arith, room .words-long, steps-are)) (omega (arith, room .bits-long, steps-are)) d
 
   -- the bits from the front of the buffer: those of the frame, and the rest
@@ -53,17 +52,18 @@ module _ {rate : ℕ} {soft : List ℤ} {words bits frame : List ℕ} (room : Fr
     bits-after : front ++ drop (24 * rate) bits₁ ≡ frameBits rate decoded ++ (drop (24 * rate) decoded ++ drop (stepsOf rate) bits)
     bits-after = ap₂ (λ (a b : List ℕ). a ++ b) front-is (ap (drop (24 * rate)) is ∙ drop-append-le (24 * rate) decoded (drop (stepsOf rate) bits) (omega arith))
 
-    frame-after : packed (take (24 * rate) (front ++ drop (24 * rate) bits₁)) frame ≡ bytesOf (frameBits rate decoded) ++ drop (3 * rate) frame
-    frame-after =
+    frame-after : AreBits decoded → packed (take (24 * rate) (front ++ drop (24 * rate) bits₁)) frame ≡ bytesOfBits (frameBits rate decoded) ++ drop (3 * rate) frame
+    frame-after h =
         ap (λ (xs : List ℕ). packed xs frame) (take-at front (drop (24 * rate) bits₁) (24 * rate) front-long)
         ∙ pack-fits front frame (3 * rate) (omega (arith, front-long)) (room .frame-long)
         ∙ ap (λ (xs : List ℕ). bytesOf xs ++ drop (3 * rate) frame) front-is
+        ∙ ap (λ (bytes : List ℕ). bytes ++ drop (3 * rate) frame) (bytes-of-bits (frameBits rate decoded) (disperse-bits (below-take (24 * rate) h)))
 
   -- what decoding, measuring, dispersing and packing leave
-  pub framed-by : {ends : Ends} (r : Decoding) {q : Measured} {percent : Float} (words₁ bits₁ : List ℕ) {front frame' : List ℕ}
-      → Decoded ends soft words bits (answerOf r) words₁ bits₁ → q ≡ measured (metricOf r) soft → percent ≡ percentIn q → front ≡ disperse (take (24 * rate) bits₁)
+  pub framed-by : {ends : Ends} (r : Decoding) (q : Measured) {percent : Float} (words₁ bits₁ : List ℕ) {front frame' : List ℕ}
+      → Decoded ends soft words bits (decodedAs r) words₁ bits₁ → measuredAs q ≡ measured (metricOf r) soft → percent ≡ percentIn q → front ≡ disperse (take (24 * rate) bits₁)
       → frame' ≡ packed (take (24 * rate) (front ++ drop (24 * rate) bits₁)) frame → Framed ends rate soft words bits frame percent words₁ (front ++ drop (24 * rate) bits₁) frame'
-  framed-by {ends} r {q} {percent} words₁ bits₁ {front} {frame'} d m p f pk =
+  framed-by {ends} r q {percent} words₁ bits₁ {front} {frame'} d m p f pk =
       let done = ended r d in
       let left : Left ends soft (stepsOf rate) words bits (done .metric) words₁ bits₁ = subst (λ (n : ℕ). Left ends soft n words bits (done .metric) words₁ bits₁) steps-are (done .left) in
       let long = decoded-length (left .decodes) in
@@ -73,10 +73,10 @@ module _ {rate : ℕ} {soft : List ℤ} {words bits frame : List ℕ} (room : Fr
         choices = left .choices;
         decodes = left .decodes;
         chosen = left .chosen;
-        percent-is = p ∙ ap percentIn (m ∙ ap (λ (s : Decoding). measured (metricOf s) soft) (done .done-is)) ∙ measure-fits (done .metric) soft (omega (arith, room .few, steps-are));
+        percent-is = p ∙ measure-fits q (done .metric) soft (omega (arith, room .few, steps-are)) (m ∙ ap (λ (s : Decoding). measured (metricOf s) soft) (done .done-is));
         words-are = left .words-are;
         bits-are = bits-after (left .decoded) bits₁ long (left .bits-are) f;
-        frame-is = pk ∙ frame-after (left .decoded) bits₁ long (left .bits-are) f;
+        frame-is = pk ∙ frame-after (left .decoded) bits₁ long (left .bits-are) f (decoded-bits (left .decodes));
       }
 
 -- two frames of the same values are one
@@ -94,5 +94,5 @@ framed-unique {rate = rate} {soft} {words} {bits} {frame} x y =
       percent-one = x .percent-is ∙ ap (λ (m : ℤ). percentOf m (sumAbs soft)) (metric-one (x .decodes) (y .decodes)) ∙ sym (y .percent-is);
       words-one = x .words-are ∙ ap (λ (c : List ℕ). c ++ drop (stepsOf rate) words) (words-one (x .chosen) (y .chosen)) ∙ sym (y .words-are);
       bits-one = x .bits-are ∙ ap (λ (c : List ℕ). frameBits rate c ++ (drop (24 * rate) c ++ drop (stepsOf rate) bits)) d ∙ sym (y .bits-are);
-      frame-one = x .frame-is ∙ ap (λ (c : List ℕ). bytesOf (frameBits rate c) ++ drop (3 * rate) frame) d ∙ sym (y .frame-is);
+      frame-one = x .frame-is ∙ ap (λ (c : List ℕ). bytesOfBits (frameBits rate c) ++ drop (3 * rate) frame) d ∙ sym (y .frame-is);
     }

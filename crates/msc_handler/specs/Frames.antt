@@ -6,10 +6,10 @@ use Prim.Native.Nat.{ℕ, _+_, _*_, _≤_}
 use lib.ListN.{length, take, drop}
 use lib.IntN.{ℤ, pos}
 use lib.Ieee.{Float, fin}
+use Rattle.en300401.specs.Bytes.{bytesOfBits}
 use Rattle.en300401.specs.Dispersal.{disperse}
 use Rattle.spec_trellis.specs.Trellis.{Ends}
 use Rattle.msc_state.specs.States.{stepsOf}
-use Rattle.packing.specs.Bytes.{bytesOf}
 use Rattle.quality.specs.Figures.{sumAbs, percentOf}
 use Rattle.quality.specs.declared.Measured.{Measured}
 use Rattle.quality.specs.declared.Measured.the-variants.{Is, «Refused» as not-measured}
@@ -29,9 +29,9 @@ pub record Framed (ends : Ends) (rate : ℕ) (soft : List ℤ) (words bits frame
   pub percent-is : percent ≡ percentOf metric (sumAbs soft)
   pub words-are : words' ≡ choices ++ drop (stepsOf rate) words
   pub bits-are : bits' ≡ frameBits rate decoded ++ (drop (24 * rate) decoded ++ drop (stepsOf rate) bits)
-  pub frame-is : frame' ≡ bytesOf (frameBits rate decoded) ++ drop (3 * rate) frame
+  pub frame-is : frame' ≡ bytesOfBits (frameBits rate decoded) ++ drop (3 * rate) frame
 
--- room for a frame, and no more steps than a decoder takes
+-- buffers long enough for a frame, and no more steps than a decoder takes
 pub record FrameRoom (rate : ℕ) (soft : List ℤ) (words bits frame : List ℕ) : Type 0 where
   pub soft-long : length soft ≡ 96 * rate + 24
   pub few : stepsOf rate ≤ 65536

@@ -2,35 +2,40 @@
 use mathlib.Core.Path.{_≡_}
 use mathlib.Core.Bool.{Bool, true, false}
 use mathlib.Core.List.{List, _++_}
-use Prim.Native.Nat.{ℕ, zero, suc, _*_}
+use Prim.Native.Nat.{ℕ, _*_}
 use lib.ListN.{length, drop}
 use lib.IntN.{ℤ}
 use lib.Ieee.{Float}
 use Rattle.en300401.specs.Puncturing.{mask, depuncture}
 use Rattle.protection.specs.declared.Description.{Description}
 use Rattle.protection.specs.Refusals.{profileOf, roomOf}
+use Rattle.refusal.specs.Outcome.{Outcome, gives, refuses, outcome}
 use Rattle.viterbi.specs.Decoders.{endsOf}
 use Rattle.msc_handler.specs.declared.Answer.{Answer}
 use Rattle.msc_handler.specs.declared.Answer.the-variants.{Waiting, Frame, Refused}
 use Rattle.msc_state.specs.declared.Channel.{Channel}
 use Rattle.msc_handler.specs.declared.Fed.{Fed}
+use Rattle.msc_state.specs.declared.Lengths.{Lengths}
 use Rattle.msc_state.specs.declared.State.{State}
 use Rattle.msc_handler.specs.Frames.{Framed}
 use Rattle.msc_handler.specs.Ring.{stored, part, readOut, refilled}
 use Rattle.msc_state.specs.States.{valuesOf, feedRefusal, whole, due, stateAfter}
 
--- what an answer says: waiting; a frame, with its byte count and percentage; document 01's number
-pub data Said : Type 0 where
-  waiting : Said
-  framed : ℕ → Float → Said
-  refused : ℕ → Said
+-- what a symbol that is taken gives: nothing yet; or a frame, with its byte count and percentage
+pub data Given : Type 0 where
+  waiting : Given
+  framed : ℕ → Float → Given
+
+-- what an answer says: that, or document 01's number
+abbrev pub Said : Type 0
+Said = Outcome Given
 
 abbrev pub saidOf : Answer → Said
-saidOf Waiting = waiting
-saidOf (Frame n p) = framed n p
-saidOf (Refused n) = refused n
+saidOf Waiting = gives waiting
+saidOf (Frame n p) = gives (framed n p)
+saidOf (Refused n) = refuses n
 
--- all that is lent
+-- the caller's seven buffers
 pub record Buffers : Type 0 where
   pub cif : List ℤ
   pub ring : List ℤ
@@ -43,23 +48,37 @@ pub record Buffers : Type 0 where
 abbrev pub buffers : List ℤ → List ℤ → List ℤ → List ℤ → List ℕ → List ℕ → List ℕ → Buffers
 buffers c r i p w b f = record { cif = c; ring = r; deinterleaved = i; depunctured = p; words = w; bits = b; frame = f }
 
+abbrev pub lengthsOf : Buffers → Lengths
+lengthsOf b =
+    record {
+      cif = length (b .cif);
+      ring = length (b .ring);
+      deinterleaved = length (b .deinterleaved);
+      depunctured = length (b .depunctured);
+      words = length (b .words);
+      bits = length (b .bits);
+      frame = length (b .frame);
+    }
+
+-- the number of a call's first refusal
 abbrev pub refusalIn : State → List ℤ → Buffers → ℕ
-refusalIn s soft b =
-    feedRefusal s (length soft) (length (b .cif)) (length (b .ring)) (length (b .deinterleaved)) (length (b .depunctured)) (length (b .words)) (length (b .bits)) (length (b .frame))
+refusalIn s soft b = feedRefusal s (length soft) (lengthsOf b)
 
--- what a call comes to: a refusal; a symbol in the middle of a CIF; a whole CIF
-pub data Turn : Type 0 where
-  refuses : ℕ → Turn
-  gathers : Turn
-  completes : Turn
+-- what a symbol that is taken does: it is one in the middle of a CIF, or makes a CIF whole
+pub data Step : Type 0 where
+  gathers : Step
+  completes : Step
 
-abbrev pub turnAt : ℕ → Bool → Turn
-turnAt (suc n) w = refuses (suc n)
-turnAt zero false = gathers
-turnAt zero true = completes
+abbrev pub stepOf : Bool → Step
+stepOf false = gathers
+stepOf true = completes
+
+-- what a call comes to: that, or a refusal
+abbrev pub Turn : Type 0
+Turn = Outcome Step
 
 unfoldable pub turnOf : State → List ℤ → Buffers → Turn
-turnOf s soft b = turnAt (refusalIn s soft b) (whole s)
+turnOf s soft b = outcome (refusalIn s soft b) (stepOf (whole s))
 
 -- the sub-channel's own stretch of a CIF
 abbrev pub stretchOf : Description → List ℤ → List ℤ
@@ -90,12 +109,12 @@ pub record FramePromise (c : Channel) (b : Buffers) (said : Said) (b' : Buffers)
   pub bits' : List ℕ
   pub frame' : List ℕ
   pub framing : Framed (endsOf (c .description .«is_eep»)) (c .description .bitrate) (depuncturedOf c (b .ring)) (b .words) (b .bits) (b .frame) percent words' bits' frame'
-  pub answer : said ≡ framed (3 * c .description .bitrate) percent
+  pub answer : said ≡ gives (framed (3 * c .description .bitrate) percent)
   pub lent : b' ≡ buffers (rotated c b .cif) (rotated c b .ring) (rotated c b .deinterleaved) (depuncturedOf c (b .ring) ++ drop (roomOf (c .description)) (b .depunctured)) words' bits' frame'
 
 -- a whole CIF in b: of the first sixteen, only the ring and `deinterleaved` change
 unfoldable pub Completed : Bool → Channel → Buffers → Said → Buffers → Type 0
-Completed false c b said b' = (said ≡ waiting) × (b' ≡ rotated c b)
+Completed false c b said b' = (said ≡ gives waiting) × (b' ≡ rotated c b)
 Completed true c b said b' = FramePromise c b said b'
 
 abbrev pub CifPromise : Channel → Buffers → Said → Buffers → Type 0
@@ -103,9 +122,9 @@ CifPromise c b said b' = Completed (due c) c b said b'
 
 -- what each turn leaves
 unfoldable pub Feeds : Turn → State → List ℤ → Buffers → State → Said → Buffers → Type 0
-Feeds (refuses n) s soft b s' said b' = (s' ≡ s) × (said ≡ refused n) × (b' ≡ b)
-Feeds gathers s soft b s' said b' = (s' ≡ stateAfter s) × (said ≡ waiting) × (b' ≡ gathered s soft b)
-Feeds completes s soft b s' said b' = (s' ≡ stateAfter s) × CifPromise (s .channel) (gathered s soft b) said b'
+Feeds (refuses n) s soft b s' said b' = (s' ≡ s) × (said ≡ refuses n) × (b' ≡ b)
+Feeds (gives gathers) s soft b s' said b' = (s' ≡ stateAfter s) × (said ≡ gives waiting) × (b' ≡ gathered s soft b)
+Feeds (gives completes) s soft b s' said b' = (s' ≡ stateAfter s) × CifPromise (s .channel) (gathered s soft b) said b'
 
 pub record FeedPromise (s : State) (soft : List ℤ) (b : Buffers) (r : Fed) (b' : Buffers) : Type 0 where
   pub feeds : Feeds (turnOf s soft b) s soft b (r .state) (saidOf (r .answer)) b'

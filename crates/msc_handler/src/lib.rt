@@ -1,5 +1,6 @@
 // MSC: symbols to CIFs, a sub-channel's stretch through the ring, frames (msc/mod.rs).
 use msc_state::Channel;
+use msc_state::Lengths;
 use msc_state::State;
 use protection::Description;
 use quality::Measured;
@@ -13,7 +14,7 @@ ghost use Rattle.laws.specs.Integers.{at};
 ghost use Rattle.en300401.specs.Interleaving.{delays};
 ghost use Rattle.en300401.specs.Puncturing.{mask, depuncture};
 ghost use Rattle.protection.specs.Refusals.{profileOf, roomOf};
-ghost use Rattle.viterbi.specs.Decoders.{endsOf, answerOf, Decoded, metricOf};
+ghost use Rattle.viterbi.specs.Decoders.{endsOf, decodedAs, Decoded, metricOf};
 ghost use Rattle.msc_handler.specs.Frames.{Framed, FrameRoom, percentIn};
 ghost use Rattle.msc_handler.specs.Promises.{saidOf, stretchOf, delayed, buffers, CifPromise, FeedPromise};
 ghost use Rattle.msc_handler.specs.Ring.{slotOf, readOut, refilled, part};
@@ -86,7 +87,7 @@ fn deinterleave(own: &[i8], ring: &mut [i8], x: usize, out: &mut [i8])
 
 // The decoder for UEP, or the one with a free end for EEP.
 fn decode(free: bool, soft: &[i8], words: &mut [u64], bits: &mut [u8]) -> Decoding
-    ensures { λ r. ⌜ Decoded (endsOf free) (now (soft .entry)) (now (words .entry)) (now (bits .entry)) (answerOf r) (now (words .exit)) (now (bits .exit)) ⌝ }
+    ensures { λ r. ⌜ Decoded (endsOf free) (now (soft .entry)) (now (words .entry)) (now (bits .entry)) (decodedAs r) (now (words .exit)) (now (bits .exit)) ⌝ }
 {
     if free {
         return viterbi::viterbi_decode_with_metric(soft, &mut *words, &mut *bits);
@@ -216,17 +217,16 @@ pub fn feed_symbol(
 ) -> Fed
     ensures { λ r. ⌜ FeedPromise state (now (soft .entry)) (buffers (now (cif .entry)) (now (ring .entry)) (now (deinterleaved .entry)) (now (depunctured .entry)) (now (words .entry)) (now (bits .entry)) (now (frame .entry))) r (buffers (now (cif .exit)) (now (ring .exit)) (now (deinterleaved .exit)) (now (depunctured .exit)) (now (words .exit)) (now (bits .exit)) (now (frame .exit))) ⌝ }
 {
-    let number = msc_state::feed_refusal(
-        state,
-        soft.len(),
-        cif.len(),
-        ring.len(),
-        deinterleaved.len(),
-        depunctured.len(),
-        words.len(),
-        bits.len(),
-        frame.len(),
-    );
+    let lengths = Lengths {
+        cif: cif.len(),
+        ring: ring.len(),
+        deinterleaved: deinterleaved.len(),
+        depunctured: depunctured.len(),
+        words: words.len(),
+        bits: bits.len(),
+        frame: frame.len(),
+    };
+    let number = msc_state::feed_refusal(state, soft.len(), lengths);
     if number != 0 {
         return Fed {
             state,

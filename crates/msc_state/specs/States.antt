@@ -1,20 +1,15 @@
--- Document 01, "Room" and "The numbers that turn a caller away": the state, what is to be lent, refusals 8 to 10, and the state after a call.
-use mathlib.Core.Bool.{Bool, true, false, cond, not}
+-- Document 01, "Room" and "The numbers that turn a caller away": the state, the needed lengths, refusals 8 to 10, and the state after a call.
+use mathlib.Core.Bool.{Bool, false, cond, not}
 use mathlib.Core.List.{List, [], _∷_}
 use Prim.Native.Nat.{ℕ, _+_, _*_, _%_, _≤_, min}
 use lib.Dec.{eqb, ltb, leb}
 use Rattle.en300401.specs.Interleaving.{cifBits, symbolBits}
 use Rattle.protection.specs.declared.Description.{Description}
 use Rattle.protection.specs.Refusals.{refusalOf, roomOf}
-use Rattle.refusal.specs.Outcome.{check, firstOf}
+use Rattle.refusal.specs.Outcome.{check, firstOf, anyOf}
 use Rattle.msc_state.specs.declared.Channel.{Channel}
+use Rattle.msc_state.specs.declared.Lengths.{Lengths}
 use Rattle.msc_state.specs.declared.State.{State}
-
--- some flag holds
-abbrev pub anyOf : List Bool → Bool
-anyOf [] = false
-anyOf (true ∷ bs) = true
-anyOf (false ∷ bs) = anyOf bs
 
 -- symbols above 17, CIF in frame above 3, ring index above 15, count above 17, or a description refused by 1 to 7
 abbrev pub faults : State → List Bool
@@ -37,23 +32,23 @@ frameRoom d = 3 * d .bitrate
 abbrev pub stepsOf : ℕ → ℕ
 stepsOf rate = 24 * rate + 6
 
--- of buffers of these lengths one is shorter than its room
-abbrev pub shortages : Description → ℕ → ℕ → ℕ → ℕ → ℕ → ℕ → ℕ → List Bool
-shortages d cif ring deinterleaved depunctured words bits frame =
-    ltb cif cifBits ∷ ltb ring (ringRoom d) ∷ ltb deinterleaved (valuesOf d) ∷ ltb depunctured (roomOf d) ∷ ltb words (stepsOf (d .bitrate)) ∷ ltb bits (stepsOf (d .bitrate)) ∷ ltb frame (frameRoom d) ∷ []
+-- a buffer is shorter than the description needs, one flag for each
+abbrev pub shortages : Description → Lengths → List Bool
+shortages d l =
+    ltb (l .cif) cifBits ∷ ltb (l .ring) (ringRoom d) ∷ ltb (l .deinterleaved) (valuesOf d) ∷ ltb (l .depunctured) (roomOf d) ∷ ltb (l .words) (stepsOf (d .bitrate)) ∷ ltb (l .bits) (stepsOf (d .bitrate)) ∷ ltb (l .frame) (frameRoom d) ∷ []
 
-unfoldable pub lacksRoom : Description → ℕ → ℕ → ℕ → ℕ → ℕ → ℕ → ℕ → Bool
-lacksRoom d cif ring deinterleaved depunctured words bits frame = anyOf (shortages d cif ring deinterleaved depunctured words bits frame)
+unfoldable pub tooShort : Description → Lengths → Bool
+tooShort d l = anyOf (shortages d l)
 
 -- each is long enough
-pub record Roomy (d : Description) (cif ring deinterleaved depunctured words bits frame : ℕ) : Type 0 where
-  pub cif-long : cifBits ≤ cif
-  pub ring-long : ringRoom d ≤ ring
-  pub read-long : valuesOf d ≤ deinterleaved
-  pub soft-long : roomOf d ≤ depunctured
-  pub words-long : stepsOf (d .bitrate) ≤ words
-  pub bits-long : stepsOf (d .bitrate) ≤ bits
-  pub frame-long : frameRoom d ≤ frame
+pub record LongEnough (d : Description) (l : Lengths) : Type 0 where
+  pub cif-long : cifBits ≤ l .cif
+  pub ring-long : ringRoom d ≤ l .ring
+  pub read-long : valuesOf d ≤ l .deinterleaved
+  pub soft-long : roomOf d ≤ l .depunctured
+  pub words-long : stepsOf (d .bitrate) ≤ l .words
+  pub bits-long : stepsOf (d .bitrate) ≤ l .bits
+  pub frame-long : frameRoom d ≤ l .frame
 
 -- set-up: 1 to 7, then 8
 abbrev pub setUpChecks : Description → ℕ → List ℕ
@@ -69,13 +64,12 @@ resetChecks s ring = check 10 (badState s) ∷ check 8 (ltb ring (ringRoom (s .c
 unfoldable pub resetRefusal : State → ℕ → ℕ
 resetRefusal s ring = firstOf (resetChecks s ring)
 
--- feeding: 10, 8, 9
-abbrev pub feedChecks : State → ℕ → ℕ → ℕ → ℕ → ℕ → ℕ → ℕ → ℕ → List ℕ
-feedChecks s soft cif ring deinterleaved depunctured words bits frame =
-    check 10 (badState s) ∷ check 8 (lacksRoom (s .channel .description) cif ring deinterleaved depunctured words bits frame) ∷ check 9 (ltb soft symbolBits) ∷ []
+-- feeding, by the symbol's length and those of the buffers: 10, 8, 9
+abbrev pub feedChecks : State → ℕ → Lengths → List ℕ
+feedChecks s soft l = check 10 (badState s) ∷ check 8 (tooShort (s .channel .description) l) ∷ check 9 (ltb soft symbolBits) ∷ []
 
-unfoldable pub feedRefusal : State → ℕ → ℕ → ℕ → ℕ → ℕ → ℕ → ℕ → ℕ → ℕ
-feedRefusal s soft cif ring deinterleaved depunctured words bits frame = firstOf (feedChecks s soft cif ring deinterleaved depunctured words bits frame)
+unfoldable pub feedRefusal : State → ℕ → Lengths → ℕ
+feedRefusal s soft l = firstOf (feedChecks s soft l)
 
 -- nothing counted yet, with this ring index and CIF in frame; a fresh state has 0 for both
 unfoldable pub startedAt : Description → ℕ → ℕ → State

@@ -4,7 +4,7 @@ use protection::Judged;
 ghost use mathlib.Core.Path.{_≡_};
 ghost use mathlib.Core.Bool.{cond};
 ghost use Rattle.protection.specs.Refusals.{refusalOf};
-ghost use Rattle.msc_state.specs.States.{badState, lacksRoom, setUpRefusal, resetRefusal, feedRefusal};
+ghost use Rattle.msc_state.specs.States.{badState, tooShort, setUpRefusal, resetRefusal, feedRefusal};
 
 // What belongs to the sub-channel.
 pub struct Channel {
@@ -21,6 +21,17 @@ pub struct State {
     pub channel: Channel,
 }
 
+// The lengths of the seven buffers that a caller of feeding provides.
+pub struct Lengths {
+    pub cif: usize,
+    pub ring: usize,
+    pub deinterleaved: usize,
+    pub depunctured: usize,
+    pub words: usize,
+    pub bits: usize,
+    pub frame: usize,
+}
+
 // The first refusal of a description, 0 where there is none.
 fn description_refusal(d: Description) -> u8
     ensures { λ r. ⌜ r ≡ refusalOf d ⌝ }
@@ -32,7 +43,8 @@ fn description_refusal(d: Description) -> u8
     }
 }
 
-fn is_bad(state: State) -> bool
+// A count above its range, or a description refused by 1 to 7.
+pub fn is_bad(state: State) -> bool
     ensures { λ r. ⌜ r ≡ badState state ⌝ }
 {
     let channel = state.channel;
@@ -52,39 +64,31 @@ fn is_bad(state: State) -> bool
     description_refusal(d) != 0
 }
 
-fn lacks_room(
-    d: Description,
-    cif: usize,
-    ring: usize,
-    deinterleaved: usize,
-    depunctured: usize,
-    words: usize,
-    bits: usize,
-    frame: usize,
-) -> bool
-    ensures { λ r. ⌜ r ≡ lacksRoom d cif ring deinterleaved depunctured words bits frame ⌝ }
+// Some buffer is shorter than this description needs.
+fn too_short(d: Description, lengths: Lengths) -> bool
+    ensures { λ r. ⌜ r ≡ tooShort d lengths ⌝ }
 {
     let size = d.sub_size as usize;
     let rate = d.bitrate as usize;
-    if cif < 55296 {
+    if lengths.cif < 55296 {
         return true;
     }
-    if ring < 1024 * size {
+    if lengths.ring < 1024 * size {
         return true;
     }
-    if deinterleaved < 64 * size {
+    if lengths.deinterleaved < 64 * size {
         return true;
     }
-    if depunctured < 96 * rate + 24 {
+    if lengths.depunctured < 96 * rate + 24 {
         return true;
     }
-    if words < 24 * rate + 6 {
+    if lengths.words < 24 * rate + 6 {
         return true;
     }
-    if bits < 24 * rate + 6 {
+    if lengths.bits < 24 * rate + 6 {
         return true;
     }
-    frame < 3 * rate
+    lengths.frame < 3 * rate
 }
 
 // A refusal where its condition holds, else a later one.
@@ -120,22 +124,12 @@ pub fn reset_refusal(state: State, ring: usize) -> u8
 }
 
 // 10, 8, 9.
-pub fn feed_refusal(
-    state: State,
-    soft: usize,
-    cif: usize,
-    ring: usize,
-    deinterleaved: usize,
-    depunctured: usize,
-    words: usize,
-    bits: usize,
-    frame: usize,
-) -> u8
-    ensures { λ r. ⌜ r ≡ feedRefusal state soft cif ring deinterleaved depunctured words bits frame ⌝ }
+pub fn feed_refusal(state: State, soft: usize, lengths: Lengths) -> u8
+    ensures { λ r. ⌜ r ≡ feedRefusal state soft lengths ⌝ }
 {
     let channel = state.channel;
     let d = channel.description;
     let bad = is_bad(state);
-    let lacks = lacks_room(d, cif, ring, deinterleaved, depunctured, words, bits, frame);
-    first(bad, 10, first(lacks, 8, first(soft < 3072, 9, 0)))
+    let short = too_short(d, lengths);
+    first(bad, 10, first(short, 8, first(soft < 3072, 9, 0)))
 }

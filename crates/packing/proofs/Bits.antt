@@ -9,6 +9,7 @@ use lib.Pow.{pow-mono}
 use Rattle.laws.specs.Bits.{numOf, AreBits}
 use Rattle.laws.proofs.Bits.{num-snoc, num-lt, below-head, below-tail}
 use Rattle.laws.proofs.Slices.{Folded}
+use Rattle.en300401.specs.Bytes.{bytesOfBits}
 use Rattle.en300401.proofs.Bytes.{bytes-length, byte-at}
 use Rattle.packing.specs.Bytes.{asBit, bytesOf}
 
@@ -28,6 +29,11 @@ as-bits [] h = refl
 as-bits (zero ∷ xs) h = ap (λ (r : List ℕ). 0 ∷ r) (as-bits xs (below-tail h))
 as-bits (suc zero ∷ xs) h = ap (λ (r : List ℕ). 1 ∷ r) (as-bits xs (below-tail h))
 as-bits (suc (suc x) ∷ xs) h = absurd (omega (arith, below-head h))
+
+-- so the packer's bytes of them are the standard's
+pub bytes-of-bits : (xs : List ℕ) → AreBits xs → bytesOf xs ≡ bytesOfBits xs
+unfolding bytesOf
+bytes-of-bits xs h = ap bytesOfBits (as-bits xs h)
 
 abbrev pub number : List ℕ → ℕ
 number xs = numOf (map asBit xs)

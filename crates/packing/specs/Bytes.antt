@@ -1,10 +1,11 @@
 -- Document 01, "high bit first": decoded bits as bytes.
-use mathlib.Core.Bool.{cond}
-use mathlib.Core.List.{List, map, _++_}
+use mathlib.Core.Path.{_≡_}
+use mathlib.Core.List.{List, [], _∷_, map, _++_}
 use Prim.Native.Nat.{ℕ, zero, suc, _/_}
-use lib.Dec.{leb}
+use lib.Dec.{ltb}
 use lib.ListN.{length, drop}
 use Rattle.en300401.specs.Bytes.{bytesOfBits}
+use Rattle.refusal.specs.Outcome.{Outcome, gives, refuses, outcome, unlessRefused, check, firstOf}
 use Rattle.packing.specs.declared.Packing.{Packing}
 use Rattle.packing.specs.declared.Packing.the-variants.{Packed, Refused}
 
@@ -17,10 +18,20 @@ asBit (suc n) = 1
 unfoldable pub bytesOf : List ℕ → List ℕ
 bytesOf xs = bytesOfBits (map asBit xs)
 
--- the answer: the number of bytes, or refusal 8 where the output has fewer places
-unfoldable pub packing : List ℕ → List ℕ → Packing
-packing xs out = cond (leb (length xs / 8) (length out)) (Packed (length xs / 8)) (Refused (record { number = 8 }))
+-- what each case of the enum says: how many bytes, or document 01's number
+abbrev pub packedAs : Packing → Outcome ℕ
+packedAs (Packed n) = gives n
+packedAs (Refused r) = refuses (r .number)
+
+-- the first refusal of a call, 0 for none: 8 where the output has fewer places than bytes
+unfoldable pub packRefusal : List ℕ → List ℕ → ℕ
+packRefusal xs out = firstOf (check 8 (ltb (length out) (length xs / 8)) ∷ [])
 
 -- the output: the bytes, then the rest as it was; all as it was on a refusal
-unfoldable pub packed : List ℕ → List ℕ → List ℕ
-packed xs out = cond (leb (length xs / 8) (length out)) (bytesOf xs ++ drop (length xs / 8) out) out
+abbrev pub packed : List ℕ → List ℕ → List ℕ
+packed xs out = unlessRefused (packRefusal xs out) (bytesOf xs ++ drop (length xs / 8) out) out
+
+-- the promise of `pack`
+pub record Packs (xs out : List ℕ) (r : Packing) (out' : List ℕ) : Type 0 where
+  pub answer : packedAs r ≡ outcome (packRefusal xs out) (length xs / 8)
+  pub bytes : out' ≡ packed xs out

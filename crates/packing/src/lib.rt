@@ -4,7 +4,7 @@ ghost use mathlib.Core.List.{map};
 ghost use Prim.Native.Nat.{_+_, _*_, _/_, _<_};
 ghost use lib.ListN.{length};
 ghost use Rattle.laws.specs.Bits.{numOf};
-ghost use Rattle.packing.specs.Bytes.{asBit, bytesOf, packing as Bytes·packing, packed};
+ghost use Rattle.packing.specs.Bytes.{asBit, bytesOf, Packs};
 use refusal::Refusal;
 
 pub enum Packing {
@@ -48,7 +48,7 @@ fn fill(bits: &[u8], bytes: &mut [u8])
 
 // Packs the bits into the start of the bytes: how many bytes, or refusal 8 where they do not fit.
 pub fn pack(bits: &[u8], bytes: &mut [u8]) -> Packing
-    ensures { λ r. ⌜ (r ≡ Bytes·packing (now (bits .entry)) (now (bytes .entry))) × (now (bytes .exit) ≡ packed (now (bits .entry)) (now (bytes .entry))) ⌝ }
+    ensures { λ r. ⌜ Packs (now (bits .entry)) (now (bytes .entry)) r (now (bytes .exit)) ⌝ }
 {
     let n = bits.len() / 8;
     if bytes.len() < n {

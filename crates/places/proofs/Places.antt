@@ -1,66 +1,66 @@
--- Numbers into the first places, and answers told.
+-- Numbers into the first places, and lookups from what the crate below answers.
 -- Assumes nothing.
-use mathlib.Core.Path.{_≡_, refl, sym}
+use mathlib.Core.Path.{_≡_, refl, sym, ap, _∙_, subst}
 use mathlib.Core.List.{List, [], _∷_, _++_}
-use Prim.Native.Nat.{ℕ, _<_, _≤_}
+use Prim.Native.Nat.{ℕ, zero, suc, _<_, _≤_}
 use native.Mathlib.Omega.{arith}
 use borrow.Author.Tests.{lt-ltb, le-ltb}
-use lib.ListN.{length, set, drop}
-use Rattle.refusal.specs.Outcome.{outcome}
-use Rattle.refusal.proofs.Laws.{refused-number, given-number}
-use Rattle.refusal.specs.declared.Refusal.{Refusal}
-use Rattle.protection.specs.declared.Judged.{Judged}
-use Rattle.protection.specs.declared.Judged.the-variants.{«Accepted» as judged-accepted, «Refused» as judged-refused}
-use Rattle.protection.specs.declared.ProtectionParams.{ProtectionParams}
+use lib.ListN.{length, drop}
+use Rattle.en300401.specs.Puncturing.{Region}
+use Rattle.refusal.specs.Outcome.{gives, refuses, outcome, unlessRefused, orElse, numberOf}
+use Rattle.refusal.proofs.Laws.{or-given, number-of, where-refused, given-value}
+use Rattle.protection.specs.declared.Description.{Description}
+use Rattle.protection.specs.declared.Lookup.{Lookup}
 use Rattle.protection.specs.declared.Size.{Size}
 use Rattle.protection.specs.declared.Size.the-variants.{Values, «Refused» as size-refused}
-use Rattle.protection.specs.Answers.{judgedAs}
-use Rattle.places.specs.Places.{numberIn, Wrote, rowIn, RowTold, SizeTold}
+use Rattle.protection.specs.Answers.{judgedAs, sizedAs}
+use Rattle.protection.specs.Params.{paramsOf}
+use Rattle.protection.specs.Promises.{RowPromise, SizePromise}
+use Rattle.protection.specs.Refusals.{profileOf, rowRefusalOf}
+use Rattle.places.specs.Code.{rowIn, sizeIn}
+use Rattle.places.specs.Lookups.{rowOf, one, Looked}
+use Rattle.places.specs.Places.{short, Wrote}
 
--- a judgement as it is promised has its number
-pub number-is : (j : Judged) (n : ℕ) → judgedAs j ≡ outcome n tt → numberIn j ≡ n
-number-is judged-accepted n e = sym (given-number n tt tt e)
-number-is (judged-refused r) n e = sym (refused-number n tt (r .number) e)
+-- refused, and nothing written
+pub wrote-nothing : (n need : ℕ) (values before : List ℕ) {k : ℕ} → k ≡ n → (n ≡ 0 → ⊥) → Wrote n need values before before k
+wrote-nothing n need values before e h = record { answer = e; places = sym (where-refused n (values ++ drop need before) before h) }
 
--- too few places, or enough of them
-pub wrote-nothing : (need : ℕ) (values before : List ℕ) → length before < need → Wrote need values before before 8
-wrote-nothing need values before h = record { answer = rw (lt-ltb _ _ h) refl; places = rw (lt-ltb _ _ h) refl }
+-- refused before, too few places, or all written
+pub wrote-first : (k need : ℕ) (values before : List ℕ) → (k ≡ 0 → ⊥) → Wrote (orElse k (short need (length before))) need values before before k
+wrote-first k need values before h =
+    let e = or-given k (short need (length before)) h in
+    wrote-nothing (orElse k (short need (length before))) need values before (sym e) (λ z. h (sym e ∙ z))
 
-pub wrote-all : (need : ℕ) (values before after : List ℕ) → need ≤ length before → after ≡ values ++ drop need before → Wrote need values before after 0
-wrote-all need values before after h e = record { answer = rw (le-ltb _ _ h) refl; places = rw (le-ltb _ _ h) e }
+pub wrote-short : (k need : ℕ) (values before : List ℕ) → k ≡ 0 → length before < need → Wrote (orElse k (short need (length before))) need values before before 8
+wrote-short k need values before z h = record { answer = rw (z, lt-ltb _ _ h) refl; places = rw (z, lt-ltb _ _ h) refl }
 
--- a value into the first place, and eight into the first eight
-pub first-set : {A : Type 0} (x : A) (xs : List A) → 1 ≤ length xs → set xs 0 x ≡ (x ∷ []) ++ drop 1 xs
-first-set x [] h = absurd (omega arith)
-first-set x (y ∷ ys) h = refl
+pub wrote-all : (k need : ℕ) (values before after : List ℕ) → k ≡ 0 → need ≤ length before → after ≡ values ++ drop need before → Wrote (orElse k (short need (length before))) need values before after 0
+wrote-all k need values before after z h e = record { answer = rw (z, le-ltb _ _ h) refl; places = rw (z, le-ltb _ _ h) e }
 
-pub eight-set :
-    (a b c d e f g h : ℕ) (xs : List ℕ)
-    → 8 ≤ length xs
-    → set (set (set (set (set (set (set (set xs 0 a) 1 b) 2 c) 3 d) 4 e) 5 f) 6 g) 7 h ≡ (a ∷ b ∷ c ∷ d ∷ e ∷ f ∷ g ∷ h ∷ []) ++ drop 8 xs
-eight-set a b c d e f g h (x0 ∷ x1 ∷ x2 ∷ x3 ∷ x4 ∷ x5 ∷ x6 ∷ x7 ∷ xs) l = refl
-eight-set a b c d e f g h [] l = absurd (omega arith)
-eight-set a b c d e f g h (x0 ∷ []) l = absurd (omega arith)
-eight-set a b c d e f g h (x0 ∷ x1 ∷ []) l = absurd (omega arith)
-eight-set a b c d e f g h (x0 ∷ x1 ∷ x2 ∷ []) l = absurd (omega arith)
-eight-set a b c d e f g h (x0 ∷ x1 ∷ x2 ∷ x3 ∷ []) l = absurd (omega arith)
-eight-set a b c d e f g h (x0 ∷ x1 ∷ x2 ∷ x3 ∷ x4 ∷ []) l = absurd (omega arith)
-eight-set a b c d e f g h (x0 ∷ x1 ∷ x2 ∷ x3 ∷ x4 ∷ x5 ∷ []) l = absurd (omega arith)
-eight-set a b c d e f g h (x0 ∷ x1 ∷ x2 ∷ x3 ∷ x4 ∷ x5 ∷ x6 ∷ []) l = absurd (omega arith)
+-- the same with the number and the values named otherwise
+pub wrote-as : (k n m need : ℕ) {values values' before after : List ℕ} {number : ℕ} → k ≡ n → (n ≡ 0 → values ≡ values') → Wrote (orElse k m) need values before after number → Wrote (orElse n m) need values' before after number
+wrote-as k n m need {values} {values'} {before} {after} {number} e f w = go n f (subst (λ (x : ℕ). Wrote (orElse x m) need values before after number) e w)
+  where
+    go : (n : ℕ) → (n ≡ 0 → values ≡ values') → Wrote (orElse n m) need values before after number → Wrote (orElse n m) need values' before after number
+    go zero f w = subst (λ (v : List ℕ). Wrote m need v before after number) (f refl) w
+    go (suc n) f w = record { answer = w .answer; places = w .places }
 
--- the answers, as they are written
-pub row-refused : (j : Judged) (p : ProtectionParams) (x : Refusal) → j ≡ judged-refused x → (before : List ℕ) → RowTold j p before before (x .number)
-unfolding RowTold
-row-refused j p x q before = rw q (refl, refl)
+-- a row that was looked up
+pub row-looked : (d : Description) (r : Lookup) → RowPromise (rowRefusalOf d) (profileOf d) r → {k : ℕ} → k ≡ numberOf (judgedAs (r .judged)) → {before after : List ℕ} {number : ℕ}
+    → Wrote (orElse k (short 8 (length before))) 8 (rowIn (r .params)) before after number → Looked d 8 rowOf before after number
+unfolding rowOf paramsOf
+row-looked d r p {k} e {before} w =
+    let n = rowRefusalOf d in
+    wrote-as k n (short 8 (length before)) 8 (e ∙ number-of n tt (p .answer))
+    (λ z. ap rowIn (p .row ∙ ap (λ (m : ℕ). paramsOf (unlessRefused m (profileOf d) [])) z)) w
 
-pub row-given : (j : Judged) (p : ProtectionParams) → j ≡ judged-accepted → {before after : List ℕ} {number : ℕ} → Wrote 8 (rowIn p) before after number → RowTold j p before after number
-unfolding RowTold
-row-given j p q w = rw q w
+-- a size that was looked up
+size-is : (n size : ℕ) (a : Size) → sizedAs a ≡ outcome n size → n ≡ 0 → sizeIn a ≡ size
+size-is n size (Values m) e z = given-value n size m e
+size-is n size (size-refused r) e z = let f : refuses (r .number) ≡ gives size = e ∙ ap (λ (m : ℕ). outcome m size) z in let q : _≡_ {A = ℕ} 0 1 = cc in absurd (omega arith)
 
-pub size-none : (a : Size) (x : Refusal) → a ≡ size-refused x → (before : List ℕ) → SizeTold a before before (x .number)
-unfolding SizeTold
-size-none a x q before = rw q (refl, refl)
-
-pub size-given : (a : Size) (n : ℕ) → a ≡ Values n → {before after : List ℕ} {number : ℕ} → Wrote 1 (n ∷ []) before after number → SizeTold a before after number
-unfolding SizeTold
-size-given a n q w = rw q w
+pub size-looked : (d : Description) (size : List Region → ℕ) (a : Size) → SizePromise size d a → {k m : ℕ} → k ≡ numberOf (sizedAs a) → m ≡ sizeIn a → {before after : List ℕ} {number : ℕ}
+    → Wrote (orElse k (short 1 (length before))) 1 (m ∷ []) before after number → Looked d 1 (one size) before after number
+size-looked d size a p {k} {m} e f {before} w =
+    let n = rowRefusalOf d in
+    wrote-as k n (short 1 (length before)) 1 (e ∙ number-of n (size (profileOf d)) (p .answer)) (λ z. ap (λ (x : ℕ). x ∷ []) (f ∙ size-is n (size (profileOf d)) a (p .answer) z)) w

@@ -1,1 +1,3 @@
+pub mod Code
+pub mod Lookups
 pub mod Places

@@ -1,14 +1,21 @@
-// Answers as plain numbers: a description from six of them, a refusal's number, and what is looked up in lent places.
+// A description as six numbers, as C passes it, and what is asked of one: its judgement, its profile and its sizes, in the caller's places.
 ghost use mathlib.Core.Path.{_≡_};
 ghost use mathlib.Core.List.{[], _∷_};
-ghost use Rattle.places.specs.Places.{describes, numberIn, rowIn, Wrote, RowTold, SizeTold};
+ghost use lib.ListN.{length};
+ghost use Rattle.en300401.specs.Puncturing.{keptSize};
+ghost use Rattle.refusal.specs.Outcome.{numberOf, orElse};
+ghost use Rattle.protection.specs.Answers.{judgedAs, sizedAs};
+ghost use Rattle.protection.specs.Promises.{motherSize};
+ghost use Rattle.protection.specs.Refusals.{refusalOf};
+ghost use Rattle.places.specs.Code.{rowIn, sizeIn};
+ghost use Rattle.places.specs.Lookups.{rowOf, one, Looked};
+ghost use Rattle.places.specs.Places.{describes, short, Wrote};
 use protection::Description;
 use protection::Judged;
-use protection::Lookup;
 use protection::ProtectionParams;
 use protection::Size;
 
-// A description as C passes it: any flag but 0 says EEP.
+// Any flag but 0 says EEP.
 pub fn described(
     start_addr: u16,
     sub_size: u16,
@@ -31,7 +38,7 @@ pub fn described(
 
 // The number of a refusal, 0 where there is none.
 pub fn number(judged: Judged) -> u8
-    ensures { λ r. ⌜ r ≡ numberIn judged ⌝ }
+    ensures { λ r. ⌜ r ≡ numberOf (judgedAs judged) ⌝ }
 {
     match judged {
         Judged::Refused(r) => r.number,
@@ -39,10 +46,35 @@ pub fn number(judged: Judged) -> u8
     }
 }
 
-// A row into the first eight places: refusal 8 where there are fewer.
-fn put_row(p: ProtectionParams, row: &mut [u64]) -> u8
-    ensures { λ r. ⌜ Wrote 8 (rowIn p) (now (row .entry)) (now (row .exit)) r ⌝ }
+// 1 to 7.
+pub fn judge(
+    start_addr: u16,
+    sub_size: u16,
+    bitrate: u16,
+    protection_level: u8,
+    eep_option: u8,
+    is_eep: u32,
+) -> u8
+    ensures { λ r. ⌜ r ≡ refusalOf (describes «start_addr» «sub_size» bitrate «protection_level» «eep_option» «is_eep») ⌝ }
 {
+    let d = described(
+        start_addr,
+        sub_size,
+        bitrate,
+        protection_level,
+        eep_option,
+        is_eep,
+    );
+    number(protection::judge(d))
+}
+
+// A row into the first eight places, unless it was refused: then its number, and 8 where there are fewer.
+fn put_row(refusal: u8, p: ProtectionParams, row: &mut [u64]) -> u8
+    ensures { λ r. ⌜ Wrote (orElse refusal (short 8 (length (now (row .entry))))) 8 (rowIn p) (now (row .entry)) (now (row .exit)) r ⌝ }
+{
+    if refusal != 0 {
+        return refusal;
+    }
     if row.len() < 8 {
         return 8;
     }
@@ -59,22 +91,57 @@ fn put_row(p: ProtectionParams, row: &mut [u64]) -> u8
     0
 }
 
-// The row that was found, or the refusal's number.
-pub fn write_row(found: Lookup, row: &mut [u64]) -> u8
-    ensures { λ r. ⌜ RowTold (found .judged) (found .params) (now (row .entry)) (now (row .exit)) r ⌝ }
+// 1 to 4, then 8.
+pub fn profile(
+    start_addr: u16,
+    sub_size: u16,
+    bitrate: u16,
+    protection_level: u8,
+    eep_option: u8,
+    is_eep: u32,
+    row: &mut [u64],
+) -> u8
+    ensures { λ r. ⌜ Looked (describes «start_addr» «sub_size» bitrate «protection_level» «eep_option» «is_eep») 8 rowOf (now (row .entry)) (now (row .exit)) r ⌝ }
 {
+    let d = described(
+        start_addr,
+        sub_size,
+        bitrate,
+        protection_level,
+        eep_option,
+        is_eep,
+    );
+    let found = protection::protection_params(d);
     let judged = found.judged;
     let params = found.params;
-    match judged {
-        Judged::Refused(r) => r.number,
-        Judged::Accepted => put_row(params, row),
+    put_row(number(judged), params, row)
+}
+
+fn size_refusal(answer: Size) -> u8
+    ensures { λ r. ⌜ r ≡ numberOf (sizedAs answer) ⌝ }
+{
+    match answer {
+        Size::Refused(r) => r.number,
+        Size::Values(_) => 0,
     }
 }
 
-// A size into the first place: refusal 8 where there is none.
-fn put_size(n: usize, size: &mut [u64]) -> u8
-    ensures { λ r. ⌜ Wrote 1 (n ∷ []) (now (size .entry)) (now (size .exit)) r ⌝ }
+fn size_in(answer: Size) -> usize
+    ensures { λ r. ⌜ r ≡ sizeIn answer ⌝ }
 {
+    match answer {
+        Size::Refused(_) => 0,
+        Size::Values(n) => n,
+    }
+}
+
+// A size into the first place, unless it was refused: then its number, and 8 where there is no place.
+fn put_size(refusal: u8, n: usize, size: &mut [u64]) -> u8
+    ensures { λ r. ⌜ Wrote (orElse refusal (short 1 (length (now (size .entry))))) 1 (n ∷ []) (now (size .entry)) (now (size .exit)) r ⌝ }
+{
+    if refusal != 0 {
+        return refusal;
+    }
     if size.len() < 1 {
         return 8;
     }
@@ -82,12 +149,50 @@ fn put_size(n: usize, size: &mut [u64]) -> u8
     0
 }
 
-// The size that was found, or the refusal's number.
-pub fn write_size(answer: Size, size: &mut [u64]) -> u8
-    ensures { λ r. ⌜ SizeTold answer (now (size .entry)) (now (size .exit)) r ⌝ }
+// How many values the profile sends: 1 to 4, then 8.
+pub fn needed_size(
+    start_addr: u16,
+    sub_size: u16,
+    bitrate: u16,
+    protection_level: u8,
+    eep_option: u8,
+    is_eep: u32,
+    size: &mut [u64],
+) -> u8
+    ensures { λ r. ⌜ Looked (describes «start_addr» «sub_size» bitrate «protection_level» «eep_option» «is_eep») 1 (one keptSize) (now (size .entry)) (now (size .exit)) r ⌝ }
 {
-    match answer {
-        Size::Refused(r) => r.number,
-        Size::Values(n) => put_size(n, size),
-    }
+    let d = described(
+        start_addr,
+        sub_size,
+        bitrate,
+        protection_level,
+        eep_option,
+        is_eep,
+    );
+    let answer = protection::needed_size(d);
+    put_size(size_refusal(answer), size_in(answer), size)
+}
+
+// How many values they become when depunctured: 1 to 4, then 8.
+pub fn depunctured_size(
+    start_addr: u16,
+    sub_size: u16,
+    bitrate: u16,
+    protection_level: u8,
+    eep_option: u8,
+    is_eep: u32,
+    size: &mut [u64],
+) -> u8
+    ensures { λ r. ⌜ Looked (describes «start_addr» «sub_size» bitrate «protection_level» «eep_option» «is_eep») 1 (one motherSize) (now (size .entry)) (now (size .exit)) r ⌝ }
+{
+    let d = described(
+        start_addr,
+        sub_size,
+        bitrate,
+        protection_level,
+        eep_option,
+        is_eep,
+    );
+    let answer = protection::depunctured_size(d);
+    put_size(size_refusal(answer), size_in(answer), size)
 }

@@ -1,2 +1,3 @@
--- The rules of the two long tables.
+-- The rules of the two long tables, and the answer of the scan.
+pub mod Answers
 pub mod Rules

@@ -14,7 +14,8 @@ use Rattle.laws.proofs.Tables.{rule-at}
 use Rattle.en300401.specs.Puncturing.{keeps}
 use Rattle.en300401.specs.Uep.{Row, uepTable, isFor, noRow}
 use Rattle.profiles.specs.declared.UepProfile.{UepProfile}
-use Rattle.profiles.specs.Rows.{IsTable, numbers, profileRow}
+use Rattle.profiles.specs.Code.{IsTable, numbers}
+use Rattle.profiles.specs.Rows.{profileRow}
 
 -- number k of the profiles is a number of row k / 10
 unfoldable pub rightNumber : ℕ → ℕ → Bool

@@ -1,14 +1,14 @@
 -- Document 01, "eep.rs" and "uep.rs": the standard's tables with `pi` counted from 0.
-use mathlib.Core.Path.{_≡_}
-use mathlib.Core.Bool.{Bool, false, cond}
+use mathlib.Core.Bool.{Bool, true, false, cond}
 use mathlib.Core.List.{List, [], _∷_, map}
 use mathlib.Core.Option.{Option, none, some}
-use Prim.Native.Nat.{ℕ, _+_, _-_, _/_, _%_, _<_}
+use Prim.Native.Nat.{ℕ, _+_, _-_}
 use lib.Dec.{eqb, ltb}
 use lib.ListN.{getD, replicate}
 use Rattle.laws.specs.Words.{pickN}
 use Rattle.en300401.specs.Puncturing.{Region, noRegion, vector}
-use Rattle.en300401.specs.Uep.{Row, noRow, uepTable}
+use Rattle.en300401.specs.Uep.{Row, noRow, uepRow}
+use Rattle.refusal.specs.Outcome.{Outcome, gives, refuses, outcome, check, firstOf}
 use Rattle.profiles.specs.declared.UepProfile.{UepProfile}
 use Rattle.profiles.specs.declared.Found.{Found}
 use Rattle.profiles.specs.declared.Found.the-variants.{«Row» as RowFound, Nothing}
@@ -45,17 +45,24 @@ profileRow p =
       pi4 = index (regionAt (p .regions) 3);
     }
 
--- the answer of a scan for a row
-abbrev pub foundOf : Option Row → Found
-foundOf none = Nothing
-foundOf (some p) = RowFound (profileRow p)
+-- what each case of the enum says: a row, or document 01's number for a bit rate and level that have none
+abbrev pub foundAs : Found → Outcome UepProfile
+foundAs (RowFound p) = gives p
+foundAs Nothing = refuses 4
 
--- the ten numbers of a row
-unfoldable pub numbers : Row → List ℕ
-numbers p =
-    p .rate ∷ p .level ∷ regionAt (p .regions) 0 .blocks ∷ regionAt (p .regions) 1 .blocks ∷ regionAt (p .regions) 2 .blocks ∷ regionAt (p .regions) 3 .blocks
-    ∷ index (regionAt (p .regions) 0) ∷ index (regionAt (p .regions) 1) ∷ index (regionAt (p .regions) 2) ∷ index (regionAt (p .regions) 3) ∷ []
+abbrev pub isNone : Option Row → Bool
+isNone none = true
+isNone (some p) = false
 
--- a list that holds the numbers of the standard's rows, ten for each
-pub record IsTable (xs : List ℕ) : Type 0 where
-  pub number : (k : ℕ) → k < 640 → getD xs k 0 ≡ getD (numbers (getD uepTable (k / 10) noRow)) (k % 10) 0
+-- the first refusal of a lookup, 0 for none: 4 where the table has no row
+unfoldable pub uepRefusal : ℕ → ℕ → ℕ
+uepRefusal rate level = firstOf (check 4 (isNone (uepRow rate level)) ∷ [])
+
+-- a row that was found; of none, no row
+abbrev pub rowIn : Option Row → Row
+rowIn none = noRow
+rowIn (some p) = p
+
+-- the answer to a bit rate and level
+abbrev pub uepFound : ℕ → ℕ → Outcome UepProfile
+uepFound rate level = outcome (uepRefusal rate level) (profileRow (rowIn (uepRow rate level)))

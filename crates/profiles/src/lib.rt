@@ -4,8 +4,9 @@ ghost use mathlib.Core.Path.{_≡_};
 ghost use Prim.Native.Nat.{_<_};
 ghost use lib.ListN.{getD};
 ghost use Rattle.en300401.specs.Puncturing.{tailMask};
-ghost use Rattle.en300401.specs.Uep.{noRow, uepRow, uepTable};
-ghost use Rattle.profiles.specs.Rows.{bits, vectorAt, profileRow, foundOf, IsTable};
+ghost use Rattle.en300401.specs.Uep.{noRow, uepTable};
+ghost use Rattle.profiles.specs.Code.{IsTable};
+ghost use Rattle.profiles.specs.Rows.{bits, vectorAt, profileRow, foundAs, uepFound};
 
 // A row of the UEP table: blocks and `pi` of four regions; an empty region's `pi` is 24, none of the 24.
 pub struct UepProfile {
@@ -1516,7 +1517,7 @@ fn row_at(table: &[u16; 640], k: usize) -> UepProfile
 
 // The scan ends at the first profile for the bit rate and level, and gives its row.
 pub fn uep_profile(bitrate: u16, level: u8) -> Found
-    ensures { λ r. ⌜ r ≡ foundOf (uepRow bitrate level) ⌝ }
+    ensures { λ r. ⌜ foundAs r ≡ uepFound bitrate level ⌝ }
 {
     let table = UEP_PROFILES;
     let wanted = level as u16;

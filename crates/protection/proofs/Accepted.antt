@@ -1,11 +1,13 @@
 -- What holds of every accepted description: the laws that a caller cites, with no bound asked of it.
 -- Assumes nothing.
-use mathlib.Core.Path.{_≡_, refl}
+use mathlib.Core.Path.{_≡_, refl, sym, ap, _∙_}
 use mathlib.Core.Bool.{Bool, true, false, cond}
 use mathlib.Core.List.{List, [], _∷_}
 use mathlib.Core.Option.{Option, none, some}
 use Prim.Native.Nat.{ℕ, zero, suc, _+_, _*_, _%_, _<_, _≤_}
 use native.Mathlib.Omega.{arith}
+use borrow.Author.Tests.{eq-eqb, eqb-true, not-false}
+use lib.Dec.{eqb}
 use lib.ListN.{length}
 use Rattle.laws.specs.Lists.{count}
 use Rattle.en300401.specs.Eep.{unit, levelOf, first, eepProfile}
@@ -14,10 +16,40 @@ use Rattle.en300401.specs.Puncturing.{mask, keptSize}
 use Rattle.en300401.specs.Uep.{Row, uepRow, regionsOf, uepProfile}
 use Rattle.en300401.proofs.Puncturing.{Firsts, no-more, group, firsts-mask, Usable, blocksIn, length-mask}
 use Rattle.en300401.proofs.Uep.{uep-length}
-use Rattle.refusal.specs.Outcome.{check, firstOf}
+use Rattle.refusal.specs.Outcome.{gives, refuses, outcome, unlessRefused, check, firstOf}
+use Rattle.refusal.proofs.Laws.{given-number}
 use Rattle.protection.specs.declared.Description.{Description}
-use Rattle.protection.specs.Refusals.{isNone, profileOf, eepRow, uepNone, rowRefusals, rowRefusalOf, Accepted, roomOf}
+use Rattle.protection.specs.declared.Judged.{Judged}
+use Rattle.protection.specs.declared.Lookup.{Lookup}
+use Rattle.protection.specs.Answers.{judgedAs}
+use Rattle.protection.specs.Params.{paramsOf}
+use Rattle.protection.specs.Promises.{JudgePromise, RowPromise}
+use Rattle.protection.specs.Refusals.{isNone, profileOf, eepRow, uepNone, rowRefusals, rowRefusalOf, refusalOf, judgement, Accepted, RefusedBy, isRefused, roomOf}
 use Rattle.protection.proofs.Profiles.{row-of-accepted, accepted-place, accepted-size, accepted-length, accepted-rate, profile-usable, needed-fours}
+
+-- ---- when it is accepted
+
+module _ (d : Description) where
+  -- by the test
+  pub accepted-passes : Accepted d → isRefused d ≡ false
+  accepted-passes ok = rw (eq-eqb (refusalOf d) 0 ok) refl
+
+  pub passes-accepted : isRefused d ≡ false → Accepted d
+  passes-accepted h = eqb-true (refusalOf d) 0 (not-false (eqb (refusalOf d) 0) h)
+
+  -- by what is answered
+  pub given : Accepted d → judgement d ≡ gives tt
+  given ok = ap (λ (n : ℕ). outcome n tt) ok
+
+  pub accepted-from : {j : Judged} → JudgePromise d j → judgedAs j ≡ gives tt → Accepted d
+  accepted-from p e = given-number (refusalOf d) tt tt (sym e ∙ p .answer)
+
+  pub refused-from : {j : Judged} {n : ℕ} → JudgePromise d j → judgedAs j ≡ refuses n → RefusedBy n d
+  refused-from p e = sym (p .answer) ∙ e
+
+  -- then its row is given
+  pub accepted-params : Accepted d → {r : Lookup} → RowPromise (rowRefusalOf d) (profileOf d) r → r .params ≡ paramsOf (profileOf d)
+  accepted-params ok p = p .row ∙ ap (λ (n : ℕ). paramsOf (unlessRefused n (profileOf d) [])) (row-of-accepted d ok)
 
 -- ---- its place and size
 

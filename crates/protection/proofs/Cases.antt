@@ -1,7 +1,7 @@
 -- Document 01, "Twelve cases proved as one table": cases 9 to 12, and the run cases of descriptions.
 -- Assumes nothing.
 use mathlib.Core.Path.{_≡_, refl, ap}
-use mathlib.Core.Bool.{true, false, cond}
+use mathlib.Core.Bool.{cond}
 use mathlib.Core.List.{_++_}
 use Prim.Native.Nat.{ℕ}
 use lib.Dec.{lit<}
@@ -10,17 +10,11 @@ use Rattle.en300401.specs.Puncturing.{keptSize}
 use Rattle.en300401.specs.Eep.{unit, levelOf, first, eepProfile}
 use Rattle.en300401.specs.Uep.{uepTable, isFor, uepRow, uepProfile}
 use Rattle.en300401.proofs.Puncturing.{sentIn}
-use Rattle.refusal.specs.Outcome.{firstOf}
+use Rattle.refusal.specs.Outcome.{outcome, firstOf}
 use Rattle.protection.specs.declared.Description.{Description}
-use Rattle.protection.specs.Refusals.{profileOf, eepRow, uepNone, rowRefusals, eepShape, uepShape, shapeRefusals, rowRefusalOf, refusalOf, Accepted}
+use Rattle.protection.specs.Descriptions.{eep, uep}
+use Rattle.protection.specs.Refusals.{profileOf, eepRow, uepNone, rowRefusals, eepShape, uepShape, shapeRefusals, rowRefusalOf, refusalOf, Accepted, RefusedBy}
 use Rattle.protection.proofs.Profiles.{needed-by}
-
--- a description of EEP: option, level, bit rate, start, size; and one of UEP
-abbrev pub eep : ℕ → ℕ → ℕ → ℕ → ℕ → Description
-eep o l k s n = record { «start_addr» = s; «sub_size» = n; bitrate = k; «protection_level» = l; «eep_option» = o; «is_eep» = true }
-
-abbrev pub uep : ℕ → ℕ → ℕ → ℕ → Description
-uep l k s n = record { «start_addr» = s; «sub_size» = n; bitrate = k; «protection_level» = l; «eep_option» = 0; «is_eep» = false }
 
 -- the refusal, with the needed size worked out by its law and not by counting the mask
 refusal-by : (d : Description) (n : ℕ) → keptSize (profileOf d) ≡ n → refusalOf d ≡ firstOf (rowRefusals d ++ cond (d .«is_eep») (eepShape (d .«eep_option») (d .bitrate) (d .«start_addr») (d .«sub_size») n) (uepShape (d .«start_addr») (d .«sub_size») n))
@@ -36,9 +30,9 @@ pub case-9 : Accepted (eep 0 3 8 860 4)
 unfolding rowRefusals eepRow first levelOf unit eepShape
 case-9 = refusal-by (eep 0 3 8 860 4) 256 (needs-9 860)
 
-pub case-10 : refusalOf (eep 0 3 8 861 4) ≡ 7
+pub case-10 : RefusedBy 7 (eep 0 3 8 861 4)
 unfolding rowRefusals eepRow first levelOf unit eepShape
-case-10 = refusal-by (eep 0 3 8 861 4) 256 (needs-9 861)
+case-10 = ap (λ (n : ℕ). outcome n tt) (refusal-by (eep 0 3 8 861 4) 256 (needs-9 861))
 
 -- UEP 384 level 1 needs 26,616 values: 416 units are over by 8, 417 by 72
 pub needs-11 : (n : ℕ) → keptSize (profileOf (uep 1 384 0 n)) ≡ 26616
@@ -49,9 +43,9 @@ pub case-11 : Accepted (uep 1 384 0 416)
 unfolding rowRefusals uepNone uepRow uepTable isFor find uepShape
 case-11 = refusal-by (uep 1 384 0 416) 26616 (needs-11 416)
 
-pub case-12 : refusalOf (uep 1 384 0 417) ≡ 5
+pub case-12 : RefusedBy 5 (uep 1 384 0 417)
 unfolding rowRefusals uepNone uepRow uepTable isFor find uepShape
-case-12 = refusal-by (uep 1 384 0 417) 26616 (needs-11 417)
+case-12 = ap (λ (n : ℕ). outcome n tt) (refusal-by (uep 1 384 0 417) 26616 (needs-11 417))
 
 -- UEP 32 level 1 needs 2,236 values: 35 units are over by 4
 pub needs-run : keptSize (profileOf (uep 1 32 0 35)) ≡ 2236
@@ -63,7 +57,7 @@ unfolding rowRefusals uepNone uepRow uepTable isFor find uepShape
 run-uep-32 = refusal-by (uep 1 32 0 35) 2236 needs-run
 
 -- 2-A at 8 kbit/s has no row, whatever the size; at 16 it needs 16 units
-pub run-eep-8 : (n : ℕ) → refusalOf (eep 0 1 8 0 n) ≡ 3
+pub run-eep-8 : (n : ℕ) → RefusedBy 3 (eep 0 1 8 0 n)
 unfolding refusalOf rowRefusals eepRow first levelOf unit
 run-eep-8 n = refl
 

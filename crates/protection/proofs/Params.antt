@@ -14,8 +14,8 @@ use Rattle.laws.proofs.Lists.{copies-zero}
 use Rattle.en300401.specs.Puncturing.{Region, regionMask, mask, keptSize, vector}
 use Rattle.en300401.proofs.Puncturing.{OkRegion, Usable, blocksIn, sentIn, in-table, length-mask, kept-size}
 use Rattle.profiles.specs.Rows.{index, regionAt}
-use Rattle.protection.specs.Code.{Bounded, blocksBy, sentOf, sentBy}
-use Rattle.protection.specs.Params.{paramsOf, regionsIn}
+use Rattle.protection.specs.Code.{Bounded, blocksBy, sentOf, sentBy, regionsIn}
+use Rattle.protection.specs.Params.{paramsOf}
 
 -- one region: its pi is at most 24, is one of the 24 where there are blocks, sends as many, and has the same mask
 module _ (r : Region) (ok : OkRegion r) where

@@ -17,33 +17,27 @@ use Rattle.en300401.proofs.Eep.{eep-usable, eep-length}
 use Rattle.en300401.proofs.Uep.{uep-usable, uep-length}
 use Rattle.refusal.specs.Outcome.{check, orElse, firstOf}
 use Rattle.refusal.proofs.Laws.{first-append}
+use Rattle.refusal.proofs.Checks.{clean, zeroed, later, held-not, past}
 use Rattle.protection.specs.declared.Description.{Description}
-use Rattle.protection.specs.Refusals.{isNone, profileOf, eepRow, uepNone, rowRefusals, outside, eepShape, uepShape, shapeRefusals, rowRefusalOf, refusalOf, Accepted}
+use Rattle.protection.specs.Theorems.{NeededInFours}
+use Rattle.protection.specs.Refusals.{isNone, profileOf, eepRow, uepNone, rowRefusals, eepShape, uepShape, shapeRefusals, rowRefusalOf, refusalOf, Accepted}
 
 -- 1 to 7: 1 to 4, or else 5 to 7
 pub refusal-split : (d : Description) → refusalOf d ≡ orElse (rowRefusalOf d) (firstOf (shapeRefusals d))
 unfolding refusalOf rowRefusalOf
 refusal-split d = first-append (rowRefusals d) (shapeRefusals d)
 
--- none of two is none of each
-pub none-first : (m n : ℕ) → orElse m n ≡ 0 → m ≡ 0
-none-first zero n e = refl
-none-first (suc m) n e = e
-
-pub none-second : (m n : ℕ) → orElse m n ≡ 0 → n ≡ 0
-none-second zero n e = e
-none-second (suc m) n e = absurd (omega arith)
-
--- a check that refuses nothing: its condition does not hold
-pub passed : (k : ℕ) (b : Bool) → check (suc k) b ≡ 0 → b ≡ false
-passed k true e = absurd (omega arith)
-passed k false e = refl
-
+-- an accepted description has a row, and its shape is right
 pub row-of-accepted : (d : Description) → Accepted d → rowRefusalOf d ≡ 0
-row-of-accepted d e = none-first (rowRefusalOf d) (firstOf (shapeRefusals d)) (sym (refusal-split d) ∙ e)
+row-of-accepted d e = go (rowRefusalOf d) (sym (refusal-split d) ∙ e)
+  where
+    go : (n : ℕ) → orElse n (firstOf (shapeRefusals d)) ≡ 0 → n ≡ 0
+    go zero z = refl
+    go (suc n) z = z
 
 pub shape-of-accepted : (d : Description) → Accepted d → firstOf (shapeRefusals d) ≡ 0
-shape-of-accepted d e = none-second (rowRefusalOf d) (firstOf (shapeRefusals d)) (sym (refusal-split d) ∙ e)
+unfolding refusalOf rowRefusalOf
+shape-of-accepted d e = sym (past (rowRefusals d) (shapeRefusals d) (row-of-accepted d e)) ∙ e
 
 -- a UEP row that is there
 uep-there : (k l : ℕ) → firstOf (uepNone k l) ≡ 0 → (P : List Region → Type 0) → ((p : Row) → uepRow k l ≡ some p → P (p .regions)) → P (uepProfile k l)
@@ -64,51 +58,44 @@ profile-usable d h e = go (d .«is_eep») e
     go true z = eep-usable (d .bitrate) h (d .«eep_option») (d .«protection_level»)
     go false z = uep-there (d .bitrate) (d .«protection_level») z Usable (λ p q. uep-usable (d .bitrate) (d .«protection_level») q)
 
--- how many values it needs: 4 (8 + PI) for each block, and 12; a multiple of 4, so that no excess is 9
+-- how many values it needs: 4 (8 + PI) for each block, and 12
 pub needed-by : (d : Description) → d .bitrate < 65536 → rowRefusalOf d ≡ 0 → keptSize (profileOf d) ≡ sentIn (profileOf d) + 12
 needed-by d h e = kept-size (in-table (profileOf d) (profile-usable d h e .each))
 
-pub needed-fours : (d : Description) → d .bitrate < 65536 → rowRefusalOf d ≡ 0 → keptSize (profileOf d) % 4 ≡ 0
+pub needed-fours : NeededInFours
 needed-fours d h e = kept-fours (in-table (profileOf d) (profile-usable d h e .each))
 
 -- L1 is not negative where a row is given, and the bitrate a multiple where 6 is not
 whole : (o l rate : ℕ) → firstOf (eepRow o l rate) ≡ 0 → 3 ≤ first o l rate
 unfolding eepRow
-whole o l rate z =
-    let third = none-first (check 3 (ltb (first o l rate) 3)) 0 (none-second (check 2 (ltb 3 l)) _ (none-second (check 1 (ltb 1 o)) _ z)) in
-    ltb-false (first o l rate) 3 (passed 2 (ltb (first o l rate) 3) third)
+whole o l rate z = ltb-false (first o l rate) 3 (held-not 2 (ltb (first o l rate) 3) (zeroed (later (later (clean (eepRow o l rate) z)))))
 
-multiple : (o rate start size needed : ℕ) → firstOf (eepShape o rate start size needed) ≡ 0 → rate % unit o ≡ 0
-unfolding eepShape
-multiple o rate start size needed z =
-    let sixth = none-first (check 6 (not (eqb (rate % unit o) 0))) _ (none-second (check 5 (not (eqb (64 * size) needed))) _ z) in
-    eqb-true (rate % unit o) 0 (not-false (eqb (rate % unit o) 0) (passed 5 (not (eqb (rate % unit o) 0)) sixth))
+module _ (o rate start size needed : ℕ) (z : firstOf (eepShape o rate start size needed) ≡ 0) where
+  multiple : rate % unit o ≡ 0
+  unfolding eepShape
+  multiple = eqb-true (rate % unit o) 0 (not-false (eqb (rate % unit o) 0) (held-not 5 (not (eqb (rate % unit o) 0)) (zeroed (later (clean (eepShape o rate start size needed) z)))))
 
-eep-fills : (o rate start size needed : ℕ) → firstOf (eepShape o rate start size needed) ≡ 0 → 64 * size ≡ needed
-unfolding eepShape
-eep-fills o rate start size needed z =
-    let fifth = none-first (check 5 (not (eqb (64 * size) needed))) _ z in
-    eqb-true (64 * size) needed (not-false (eqb (64 * size) needed) (passed 4 (not (eqb (64 * size) needed)) fifth))
+  eep-fills : 64 * size ≡ needed
+  unfolding eepShape
+  eep-fills = eqb-true (64 * size) needed (not-false (eqb (64 * size) needed) (held-not 4 (not (eqb (64 * size) needed)) (zeroed (clean (eepShape o rate start size needed) z))))
 
-uep-holds : (start size needed : ℕ) → firstOf (uepShape start size needed) ≡ 0 → (needed ≤ 64 * size) × (64 * size ≤ needed + 8)
-unfolding uepShape
-uep-holds start size needed z = go (ltb (64 * size) needed) (ltb (needed + 8) (64 * size)) refl refl (passed 4 (ltb (64 * size) needed || ltb (needed + 8) (64 * size)) (none-first (check 5 (ltb (64 * size) needed || ltb (needed + 8) (64 * size))) _ z))
-  where
-    go : (a b : Bool) → ltb (64 * size) needed ≡ a → ltb (needed + 8) (64 * size) ≡ b → a || b ≡ false → (needed ≤ 64 * size) × (64 * size ≤ needed + 8)
-    go false false p q w = (ltb-false (64 * size) needed p, ltb-false (needed + 8) (64 * size) q)
-    go false true p q w = let z : _≡_ {A = ℕ} 0 1 = cc in absurd (omega arith)
-    go true b p q w = let z : _≡_ {A = ℕ} 0 1 = cc in absurd (omega arith)
+  eep-inside : start + size ≤ 864
+  unfolding eepShape
+  eep-inside = ltb-false 864 (start + size) (held-not 6 (ltb 864 (start + size)) (zeroed (later (later (clean (eepShape o rate start size needed) z)))))
 
-inside : (start size : ℕ) → orElse (outside start size) 0 ≡ 0 → start + size ≤ 864
-inside start size z = ltb-false 864 (start + size) (passed 6 (ltb 864 (start + size)) (none-first (outside start size) 0 z))
+module _ (start size needed : ℕ) (z : firstOf (uepShape start size needed) ≡ 0) where
+  uep-holds : (needed ≤ 64 * size) × (64 * size ≤ needed + 8)
+  unfolding uepShape
+  uep-holds = go (ltb (64 * size) needed) (ltb (needed + 8) (64 * size)) refl refl (held-not 4 (ltb (64 * size) needed || ltb (needed + 8) (64 * size)) (zeroed (clean (uepShape start size needed) z)))
+    where
+      go : (a b : Bool) → ltb (64 * size) needed ≡ a → ltb (needed + 8) (64 * size) ≡ b → a || b ≡ false → (needed ≤ 64 * size) × (64 * size ≤ needed + 8)
+      go false false p q w = (ltb-false (64 * size) needed p, ltb-false (needed + 8) (64 * size) q)
+      go false true p q w = let z : _≡_ {A = ℕ} 0 1 = cc in absurd (omega arith)
+      go true b p q w = let z : _≡_ {A = ℕ} 0 1 = cc in absurd (omega arith)
 
-eep-inside : (o rate start size needed : ℕ) → firstOf (eepShape o rate start size needed) ≡ 0 → start + size ≤ 864
-unfolding eepShape
-eep-inside o rate start size needed z = inside start size (none-second (check 6 (not (eqb (rate % unit o) 0))) _ (none-second (check 5 (not (eqb (64 * size) needed))) _ z))
-
-uep-inside : (start size needed : ℕ) → firstOf (uepShape start size needed) ≡ 0 → start + size ≤ 864
-unfolding uepShape
-uep-inside start size needed z = inside start size (none-second (check 5 (ltb (64 * size) needed || ltb (needed + 8) (64 * size))) _ z)
+  uep-inside : start + size ≤ 864
+  unfolding uepShape
+  uep-inside = ltb-false 864 (start + size) (held-not 6 (ltb 864 (start + size)) (zeroed (later (clean (uepShape start size needed) z))))
 
 -- the mother code word of an accepted description: 96 places for each kbit/s, and the tail
 pub accepted-length : (d : Description) → d .bitrate < 65536 → Accepted d → length (mask (profileOf d)) ≡ 96 * d .bitrate + 24

@@ -13,9 +13,8 @@ use Rattle.en300401.specs.Eep.{unit, levelOf, first, eepProfile}
 use Rattle.en300401.specs.Uep.{Row, uepRow, regionsOf, uepProfile}
 use Rattle.en300401.proofs.Eep.{eep-usable, first-blocks}
 use Rattle.profiles.specs.declared.UepProfile.{UepProfile}
-use Rattle.profiles.specs.declared.Found.the-variants.{«Row» as RowFound, Nothing}
-use Rattle.profiles.specs.Rows.{index, profileRow, foundOf}
-use Rattle.refusal.specs.Outcome.{outcome, unlessRefused, check, firstOf}
+use Rattle.profiles.specs.Rows.{index, profileRow, isNone as noneThere, rowIn, uepRefusal, uepFound}
+use Rattle.refusal.specs.Outcome.{gives, refuses, outcome, unlessRefused, check, firstOf}
 use Rattle.protection.specs.declared.EepLevel.{EepLevel}
 use Rattle.protection.specs.declared.Judged.the-variants.{«Accepted» as judged-accepted}
 use Rattle.protection.specs.declared.Lookup.{Lookup}
@@ -81,27 +80,27 @@ paramsBy p = record { blocks = p .l1 ∷ p .l2 ∷ p .l3 ∷ p .l4 ∷ []; pi = 
 
 -- the scan's answer: a row, or refusal 4
 module _ (k l : ℕ) where
-  pub uep-given : (p : UepProfile) → RowFound p ≡ foundOf (uepRow k l) → firstOf (uepNone k l) ≡ 0
-  unfolding uepNone
+  pub uep-given : (p : UepProfile) → gives p ≡ uepFound k l → firstOf (uepNone k l) ≡ 0
+  unfolding uepNone uepRefusal
   uep-given p e = go (uepRow k l) e
     where
-      go : (o : Option Row) → RowFound p ≡ foundOf o → firstOf (check 4 (isNone o) ∷ []) ≡ 0
+      go : (o : Option Row) → gives p ≡ outcome (firstOf (check 4 (noneThere o) ∷ [])) (profileRow (rowIn o)) → firstOf (check 4 (isNone o) ∷ []) ≡ 0
       go none q = let z : _≡_ {A = ℕ} 0 1 = cc in absurd (omega arith)
       go (some r) q = refl
 
-  pub uep-missing : Nothing ≡ foundOf (uepRow k l) → firstOf (uepNone k l) ≡ 4
-  unfolding uepNone
+  pub uep-missing : refuses 4 ≡ uepFound k l → firstOf (uepNone k l) ≡ 4
+  unfolding uepNone uepRefusal
   uep-missing e = go (uepRow k l) e
     where
-      go : (o : Option Row) → Nothing ≡ foundOf o → firstOf (check 4 (isNone o) ∷ []) ≡ 4
+      go : (o : Option Row) → refuses 4 ≡ outcome (firstOf (check 4 (noneThere o) ∷ [])) (profileRow (rowIn o)) → firstOf (check 4 (isNone o) ∷ []) ≡ 4
       go none q = refl
       go (some r) q = let z : _≡_ {A = ℕ} 0 1 = cc in absurd (omega arith)
 
-  pub uep-made : (p : UepProfile) → RowFound p ≡ foundOf (uepRow k l) → paramsBy p ≡ paramsOf (uepProfile k l)
-  unfolding uepProfile paramsOf profileRow
+  pub uep-made : (p : UepProfile) → gives p ≡ uepFound k l → paramsBy p ≡ paramsOf (uepProfile k l)
+  unfolding uepProfile paramsOf profileRow uepRefusal
   uep-made p e = go (uepRow k l) e
     where
-      go : (o : Option Row) → RowFound p ≡ foundOf o → paramsBy p ≡ paramsOf (regionsOf o)
+      go : (o : Option Row) → gives p ≡ outcome (firstOf (check 4 (noneThere o) ∷ [])) (profileRow (rowIn o)) → paramsBy p ≡ paramsOf (regionsOf o)
       go none q = let z : _≡_ {A = ℕ} 0 1 = cc in absurd (omega arith)
       go (some r) q = let w : p ≡ profileRow r = cc in ap paramsBy w
 

@@ -1,19 +1,15 @@
--- Each promise admits one result.
+-- Each promise admits one result (specs/Theorems.antt).
 -- Assumes nothing.
 use mathlib.Core.Path.{_≡_, refl, sym, ap, ap₂, _∙_}
-use mathlib.Core.List.{List}
 use Prim.Native.Nat.{ℕ}
 use native.Mathlib.Omega.{arith}
-use Rattle.en300401.specs.Puncturing.{Region}
-use Rattle.protection.specs.declared.Description.{Description}
 use Rattle.protection.specs.declared.Judged.{Judged}
 use Rattle.protection.specs.declared.Judged.the-variants.{«Accepted» as judged-accepted, «Refused» as judged-refused}
-use Rattle.protection.specs.declared.Lookup.{Lookup}
 use Rattle.protection.specs.declared.ProtectionParams.{ProtectionParams}
 use Rattle.protection.specs.declared.Size.{Size}
 use Rattle.protection.specs.declared.Size.the-variants.{Values, «Refused» as refused-size}
 use Rattle.protection.specs.Answers.{judgedAs, sizedAs}
-use Rattle.protection.specs.Promises.{JudgePromise, RowPromise, SizePromise}
+use Rattle.protection.specs.Theorems.{OneJudgement, OneRow, OneSize}
 
 -- two answers that say the same are the same
 pub judged-unique : (r s : Judged) → judgedAs r ≡ judgedAs s → r ≡ s
@@ -28,12 +24,12 @@ sized-unique (Values m) (refused-size y) e = let z : _≡_ {A = ℕ} 0 1 = cc in
 sized-unique (refused-size x) (Values n) e = let z : _≡_ {A = ℕ} 0 1 = cc in absurd (omega arith)
 sized-unique (refused-size x) (refused-size y) e = let n : x .number ≡ y .number = cc in ap (λ (m : ℕ). refused-size (record { number = m })) n
 
-pub judge-unique : {d : Description} {r s : Judged} → JudgePromise d r → JudgePromise d s → r ≡ s
-judge-unique {d} {r} {s} p q = judged-unique r s (p .answer ∙ sym (q .answer))
+pub judge-unique : OneJudgement
+judge-unique d r s p q = judged-unique r s (p .answer ∙ sym (q .answer))
 
-pub row-unique : {n : ℕ} {profile : List Region} {r s : Lookup} → RowPromise n profile r → RowPromise n profile s → r ≡ s
-row-unique {n} {profile} {r} {s} p q =
+pub row-unique : OneRow
+row-unique n profile r s p q =
     ap₂ (λ (j : Judged) (m : ProtectionParams). record { judged = j; params = m }) (judged-unique (r .judged) (s .judged) (p .answer ∙ sym (q .answer))) (p .row ∙ sym (q .row))
 
-pub size-unique : {size : List Region → ℕ} {d : Description} {r s : Size} → SizePromise size d r → SizePromise size d s → r ≡ s
-size-unique {size} {d} {r} {s} p q = sized-unique r s (p .answer ∙ sym (q .answer))
+pub size-unique : OneSize
+size-unique size d r s p q = sized-unique r s (p .answer ∙ sym (q .answer))

@@ -1,4 +1,4 @@
--- Document 01, "Forms that change": what each answer says, its number where it turns the caller away.
+-- Document 01, "Forms that change": what each answer says, its number where it refuses.
 use Prim.Native.Nat.{ℕ}
 use Rattle.refusal.specs.Outcome.{Outcome, gives, refuses}
 use Rattle.protection.specs.declared.Judged.{Judged}

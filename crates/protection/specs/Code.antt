@@ -1,7 +1,9 @@
 -- What the private functions of the crate ask and promise: the code's own terms, over the standard's definitions.
+use mathlib.Core.List.{List, [], _∷_}
 use Prim.Native.Nat.{ℕ, _+_, _*_, _-_, _<_, _≤_}
 use lib.ListN.{getD}
 use Rattle.en300401.specs.Eep.{levelOf}
+use Rattle.en300401.specs.Puncturing.{Region}
 use Rattle.protection.specs.declared.EepLevel.{EepLevel}
 use Rattle.protection.specs.declared.ProtectionParams.{ProtectionParams}
 
@@ -27,3 +29,13 @@ sentOf blocks pi = 4 * (blocks * (9 + pi))
 abbrev pub sentBy : ProtectionParams → ℕ
 sentBy p =
     sentOf (getD (p .blocks) 0 0) (getD (p .pi) 0 0) + sentOf (getD (p .blocks) 1 0) (getD (p .pi) 1 0) + sentOf (getD (p .blocks) 2 0) (getD (p .pi) 2 0) + sentOf (getD (p .blocks) 3 0) (getD (p .pi) 3 0)
+
+-- the profile that is held: a region with its vector counted from 1 again
+abbrev pub region : ℕ → ℕ → Region
+region blocks pi = record { blocks = blocks; pi = pi + 1 }
+
+abbrev pub regionIn : ProtectionParams → ℕ → Region
+regionIn p i = region (getD (p .blocks) i 0) (getD (p .pi) i 0)
+
+abbrev pub regionsIn : ProtectionParams → List Region
+regionsIn p = regionIn p 0 ∷ regionIn p 1 ∷ regionIn p 2 ∷ regionIn p 3 ∷ []

@@ -11,11 +11,11 @@ use Rattle.protection.specs.declared.Size.{Size}
 use Rattle.protection.specs.declared.Lookup.{Lookup}
 use Rattle.protection.specs.Answers.{judgedAs, sizedAs}
 use Rattle.protection.specs.Params.{paramsOf}
-use Rattle.protection.specs.Refusals.{profileOf, rowRefusalOf, refusalOf}
+use Rattle.protection.specs.Refusals.{profileOf, rowRefusalOf, judgement}
 
 -- the judgement of a description: its first refusal of 1 to 7, or accepted
 pub record JudgePromise (d : Description) (r : Judged) : Type 0 where
-  pub answer : judgedAs r ≡ outcome (refusalOf d) tt
+  pub answer : judgedAs r ≡ judgement d
 
 -- a row: refused by n, or the profile's numbers; those of no region where it is refused
 pub record RowPromise (n : ℕ) (profile : List Region) (r : Lookup) : Type 0 where

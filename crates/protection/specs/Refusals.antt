@@ -9,7 +9,7 @@ use Rattle.en300401.specs.Puncturing.{Region, keptSize}
 use Rattle.en300401.specs.Interleaving.{units}
 use Rattle.en300401.specs.Eep.{unit, first, eepProfile}
 use Rattle.en300401.specs.Uep.{Row, uepRow, uepProfile}
-use Rattle.refusal.specs.Outcome.{check, firstOf}
+use Rattle.refusal.specs.Outcome.{Outcome, refuses, outcome, check, firstOf}
 use Rattle.protection.specs.declared.Description.{Description}
 
 abbrev pub isNone : Option Row → Bool
@@ -59,10 +59,22 @@ rowRefusalOf d = firstOf (rowRefusals d)
 unfoldable pub refusalOf : Description → ℕ
 refusalOf d = firstOf (rowRefusals d ++ shapeRefusals d)
 
+-- what is answered of a description: accepted, or its first refusal
+abbrev pub judgement : Description → Outcome (Unit {0})
+judgement d = outcome (refusalOf d) tt
+
 -- none of 1 to 7
 abbrev pub Accepted : Description → Type 0
 Accepted d = refusalOf d ≡ 0
 
--- 96 × bitrate + 24: the room for what is depunctured
+-- n is the first of 1 to 7
+abbrev pub RefusedBy : ℕ → Description → Type 0
+RefusedBy n d = judgement d ≡ refuses n
+
+-- some refusal of 1 to 7, as a test
+abbrev pub isRefused : Description → Bool
+isRefused d = not (eqb (refusalOf d) 0)
+
+-- 96 × bitrate + 24: the needed length of what is depunctured
 abbrev pub roomOf : Description → ℕ
 roomOf d = 96 * d .bitrate + 24

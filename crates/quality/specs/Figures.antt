@@ -1,11 +1,12 @@
 -- Document 01, "Quality": metric, sum of absolute depunctured values, and percentage.
-use mathlib.Core.Bool.{false, cond}
+use mathlib.Core.Bool.{false}
 use mathlib.Core.List.{List, [], _∷_}
 use Prim.Native.Nat.{ℕ, zero, suc, _+_, _/_}
-use lib.Dec.{leb}
+use lib.Dec.{ltb}
 use lib.ListN.{length}
 use lib.IntN.{ℤ, pos, natAbs}
 use lib.Ieee.{Float, binary64, fin, mul, div, ofInt}
+use Rattle.refusal.specs.Outcome.{Outcome, gives, refuses, outcome, check, firstOf}
 use Rattle.quality.specs.declared.Quality.{Quality}
 use Rattle.quality.specs.declared.Measured.{Measured}
 use Rattle.quality.specs.declared.Measured.the-variants.{Is, Refused}
@@ -24,9 +25,18 @@ percentOf m (suc n) = mul binary64 (div binary64 (ofInt binary64 m) (ofInt binar
 abbrev pub qualityOf : ℤ → List ℤ → Quality
 qualityOf m xs = record { metric = m; sum = pos (sumAbs xs); percent = percentOf m (sumAbs xs) }
 
--- the answer: refusal 11 above 65,536 whole steps, else the record
-unfoldable pub measured : ℤ → List ℤ → Measured
-measured m xs = cond (leb (length xs / 4) 65536) (Is (qualityOf m xs)) (Refused (record { number = 11 }))
+-- what each case of the enum says
+abbrev pub measuredAs : Measured → Outcome Quality
+measuredAs (Is q) = gives q
+measuredAs (Refused r) = refuses (r .number)
+
+-- the first refusal for some values, 0 for none: 11 above 65,536 whole steps
+unfoldable pub measureRefusal : List ℤ → ℕ
+measureRefusal xs = firstOf (check 11 (ltb 65536 (length xs / 4)) ∷ [])
+
+-- the answer to a metric and some values
+abbrev pub measured : ℤ → List ℤ → Outcome Quality
+measured m xs = outcome (measureRefusal xs) (qualityOf m xs)
 
 -- the record of an absent block
 abbrev pub nothing : Quality

@@ -3,7 +3,7 @@ ghost use mathlib.Core.Path.{_≡_};
 ghost use Prim.Native.Nat.{_+_, _*_, _^_, _<_, _≤_};
 ghost use lib.IntN.{pos, natAbs, _+ℤ_};
 ghost use lib.ListN.{length};
-ghost use Rattle.quality.specs.Figures.{sumAbs, percentOf, measured, nothing};
+ghost use Rattle.quality.specs.Figures.{sumAbs, percentOf, measuredAs, measured, nothing};
 use refusal::Refusal;
 
 pub struct Quality {
@@ -57,7 +57,7 @@ fn percent(metric: i32, sum: i32) -> f64
 
 // The record of a metric and the values that it was decoded from; refusal 11 above 65,536 whole steps.
 pub fn measure(metric: i32, depunctured: &[i8]) -> Measured
-    ensures { λ r. ⌜ r ≡ measured metric (now (depunctured .entry)) ⌝ }
+    ensures { λ r. ⌜ measuredAs r ≡ measured metric (now (depunctured .entry)) ⌝ }
 {
     if 65536 < depunctured.len() / 4 {
         return Measured::Refused(Refusal { number: 11 });

@@ -1,6 +1,6 @@
 // The program `recorded_frames`: five transmission frames of a recording (recordings/README.md) from standard input, as two's-complement bytes,
-// go to three sub-channels that are set up before the first symbol; each frame goes to standard output as it comes. A refusal writes nothing
-// and ends it, as a short input does.
+// go to three sub-channels that are set up before the first symbol; each frame goes to standard output as it comes. A short input ends it, and an
+// incomplete symbol is dropped.
 ghost use Prim.Native.Nat.{_≤_};
 use libc::STDIN_FILENO;
 use libc::STDOUT_FILENO;
@@ -44,7 +44,7 @@ fn third_description() -> Description {
     }
 }
 
-// Room for a symbol, for the three of a FIC, for a CIF, and for the largest of the three.
+// Buffers for a symbol, for the three of a FIC, for a CIF, and for the largest of the three sub-channels.
 fn some_bytes() -> [u8; 3072] {
     [0; 3072]
 }
@@ -85,7 +85,6 @@ fn some_frame() -> [u8; 384] {
     [0; 384]
 }
 
-// A refused set-up gives a state that is refused at the first symbol.
 fn start(d: Description, ring: &mut [i8]) -> State {
     let set_up = msc_set_up::set_up(d, &mut *ring);
     set_up.state
@@ -136,15 +135,8 @@ fn pass_fic() {
     io::read_full(STDIN_FILENO, &mut fic);
 }
 
-fn all_at(place: usize, first: u8, second: u8, third: u8) -> bool {
-    (first as usize) == place && (second as usize) == place && (third as usize) == place
-}
-
-// The next symbol of the MSC: whether to go on with it. A refused symbol is not counted, so a refusal shows in a sub-channel's count.
-fn next(symbol: usize, first: u8, second: u8, third: u8, soft: &mut [i8]) -> bool {
-    if !all_at(symbol % 18, first, second, third) {
-        return false;
-    }
+// The next symbol of the MSC: whether there was a whole one.
+fn next(symbol: usize, soft: &mut [i8]) -> bool {
     if symbol % 72 == 0 {
         pass_fic();
     }
@@ -168,15 +160,7 @@ fn run(
     let mut second = start(second_description(), &mut *ring2);
     let mut third = start(third_description(), &mut *ring3);
     let mut symbol: usize = 0;
-    while symbol < 360
-        && next(
-            symbol,
-            first.symbols,
-            second.symbols,
-            third.symbols,
-            &mut *soft,
-        )
-    {
+    while symbol < 360 && next(symbol, &mut *soft) {
         first = listen(first, &*soft, &mut *cif1, &mut *ring1);
         second = listen(second, &*soft, &mut *cif2, &mut *ring2);
         third = listen(third, &*soft, &mut *cif3, &mut *ring3);

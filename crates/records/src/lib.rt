@@ -95,7 +95,7 @@ fn read_length() -> usize
     pair_at(&two, 0) as usize
 }
 
-// A length and its bytes, put at the start of the buffer as far as there is room: how many came.
+// A length and its bytes, put at the start of the buffer as far as it reaches: how many came.
 pub fn read_part(buf: &mut [u8]) -> usize
     ensures { λ r. ⌜ Part (now (buf .entry)) r (now (buf .exit)) ⌝ }
 {

@@ -1,5 +1,5 @@
 -- Document 01, "The numbers that turn a caller away": an answer is what was asked for, or the number of the first refusal in its order.
-use mathlib.Core.Bool.{Bool, cond}
+use mathlib.Core.Bool.{Bool, true, false, cond}
 use mathlib.Core.List.{List, [], _∷_}
 use Prim.Native.Nat.{ℕ, zero, suc}
 
@@ -19,6 +19,11 @@ module _ {ℓ} {A : Type ℓ} where
   unlessRefused zero a b = a
   unlessRefused (suc n) a b = b
 
+  -- its number, 0 where it is no refusal
+  abbrev pub numberOf : Outcome A → ℕ
+  numberOf (gives a) = 0
+  numberOf (refuses n) = n
+
 -- refusal n where its condition holds
 abbrev pub check : ℕ → Bool → ℕ
 check n holds = cond holds n 0
@@ -32,3 +37,9 @@ orElse (suc n) m = suc n
 abbrev pub firstOf : List ℕ → ℕ
 firstOf [] = 0
 firstOf (n ∷ ns) = orElse n (firstOf ns)
+
+-- some flag of a list holds: the condition of a refusal that several things can earn
+abbrev pub anyOf : List Bool → Bool
+anyOf [] = false
+anyOf (true ∷ bs) = true
+anyOf (false ∷ bs) = anyOf bs

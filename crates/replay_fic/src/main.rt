@@ -1,12 +1,12 @@
-// Replays recorded answers of the Rust on whole FICs, kind 10, from standard input, and counts which answers are the same. Lent to a
-// call is the room for four blocks, with a value in each place that the call does not leave there.
+// Replays recorded answers of the Rust on whole FICs, kind 10, from standard input, and counts which answers are the same. The
+// buffers of a call have the lengths that four blocks need, with a value in each place that the call does not leave there.
 ghost use mathlib.Core.Path.{_≡_};
 ghost use Prim.Native.Nat.{_≤_};
 ghost use lib.ListN.{length};
 use fic_handler::FicAnswer;
 use libc::STDOUT_FILENO;
 
-// Room for one call. Each promise gives only the length.
+// Buffers of one call. Each promise gives only the length.
 fn some_values() -> [i8; 9216]
     ensures { λ r. ⌜ 9216 ≡ length r ⌝ }
 {

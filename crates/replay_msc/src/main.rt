@@ -1,6 +1,6 @@
 // Replays recorded answers of the Rust on the smallest sub-channel, kind 11, from standard input, and counts which answers are the same:
-// set up, then symbol by symbol, 256 values at the start of each CIF and zeros behind them. Lent to the calls is just the room that they
-// need, with another value in each place.
+// set up, then symbol by symbol, 256 values at the start of each CIF and zeros behind them. The buffers handed to the calls have just the needed
+// lengths, with another value in each place.
 ghost use mathlib.Core.Path.{_≡_};
 ghost use Prim.Native.Nat.{_≤_};
 ghost use lib.ListN.{length};
@@ -11,7 +11,7 @@ use msc_state::State;
 use protection::Description;
 use protection::Judged;
 
-// Room for one record. Each promise gives only the length.
+// Buffers of one record or one symbol. Each promise gives only the length.
 fn some_symbol() -> [i8; 3072]
     ensures { λ r. ⌜ 3072 ≡ length r ⌝ }
 {
@@ -30,7 +30,7 @@ fn some_ring() -> [i8; 4096]
     [77; 4096]
 }
 
-fn some_stretch() -> [i8; 256]
+fn some_slice() -> [i8; 256]
     ensures { λ r. ⌜ 256 ≡ length r ⌝ }
 {
     [77; 256]
@@ -60,12 +60,6 @@ fn some_frame() -> [u8; 24]
     [77; 24]
 }
 
-fn no_values() -> [u8; 256]
-    ensures { λ r. ⌜ 256 ≡ length r ⌝ }
-{
-    [0; 256]
-}
-
 fn smallest() -> Description {
     Description {
         start_addr: 0,
@@ -84,7 +78,7 @@ struct Walk {
     same: bool,
 }
 
-// The start of symbol t: the first of a CIF has the CIF's values, the others zeros.
+// Symbol t: the first of a CIF begins with the CIF's values, and all others are zeros.
 fn load(input: &[u8], t: usize, symbol: &mut [i8])
     requires { ⌜ t ≤ 65536 ⌝ }
 {
@@ -95,8 +89,6 @@ fn load(input: &[u8], t: usize, symbol: &mut [i8])
     }
     if t % 18 == 0 {
         soft_bytes::convert(&input[from..to], symbol);
-    } else {
-        soft_bytes::convert(&no_values(), symbol);
     }
 }
 
@@ -147,47 +139,41 @@ fn is_whole(walk: Walk, recorded: &[u8]) -> bool {
     walk.same && walk.at == recorded.len()
 }
 
+// One symbol; no work buffer holds anything from symbol to symbol.
 fn turn(
     walk: Walk,
-    symbol: &[i8],
+    input: &[u8],
+    t: usize,
     cif: &mut [i8],
     ring: &mut [i8],
-    deinterleaved: &mut [i8],
-    depunctured: &mut [i8],
-    words: &mut [u64],
-    bits: &mut [u8],
-    frame: &mut [u8],
     recorded: &[u8],
-) -> Walk {
+) -> Walk
+    requires { ⌜ t ≤ 65536 ⌝ }
+{
+    let mut symbol = some_symbol();
+    load(input, t, &mut symbol);
+    let mut deinterleaved = some_slice();
+    let mut depunctured = some_depunctured();
+    let mut words = some_words();
+    let mut bits = some_bits();
+    let mut frame = some_frame();
     let state = walk.state;
     let fed = msc_handler::feed_symbol(
         state,
-        symbol,
-        cif,
-        ring,
-        deinterleaved,
-        depunctured,
-        words,
-        bits,
-        &mut *frame,
+        &symbol,
+        &mut *cif,
+        &mut *ring,
+        &mut deinterleaved,
+        &mut depunctured,
+        &mut words,
+        &mut bits,
+        &mut frame,
     );
-    walked(walk, fed, &*frame, recorded)
+    walked(walk, fed, &frame, recorded)
 }
 
 // Every symbol of a record.
-fn walk_all(
-    start: State,
-    input: &[u8],
-    symbol: &mut [i8],
-    cif: &mut [i8],
-    ring: &mut [i8],
-    deinterleaved: &mut [i8],
-    depunctured: &mut [i8],
-    words: &mut [u64],
-    bits: &mut [u8],
-    frame: &mut [u8],
-    recorded: &[u8],
-) -> bool
+fn walk_all(start: State, input: &[u8], cif: &mut [i8], ring: &mut [i8], recorded: &[u8]) -> bool
     requires { ⌜ length (now input) ≤ 65536 ⌝ }
 {
     let n = 18 * (input.len() / 256);
@@ -198,19 +184,7 @@ fn walk_all(
     };
     let mut t: usize = 0;
     while t < n {
-        load(input, t, &mut *symbol);
-        walk = turn(
-            walk,
-            &*symbol,
-            &mut *cif,
-            &mut *ring,
-            &mut *deinterleaved,
-            &mut *depunctured,
-            &mut *words,
-            &mut *bits,
-            &mut *frame,
-            recorded,
-        );
+        walk = turn(walk, input, t, &mut *cif, &mut *ring, recorded);
         t += 1;
     }
     is_whole(walk, recorded)
@@ -231,26 +205,8 @@ fn receives(input: &[u8], recorded: &[u8]) -> bool {
     if let Judged::Refused(_) = answer {
         return false;
     }
-    let mut symbol = some_symbol();
     let mut cif = some_cif();
-    let mut deinterleaved = some_stretch();
-    let mut depunctured = some_depunctured();
-    let mut words = some_words();
-    let mut bits = some_bits();
-    let mut frame = some_frame();
-    walk_all(
-        state,
-        input,
-        &mut symbol,
-        &mut cif,
-        &mut ring,
-        &mut deinterleaved,
-        &mut depunctured,
-        &mut words,
-        &mut bits,
-        &mut frame,
-        recorded,
-    )
+    walk_all(state, input, &mut cif, &mut ring, recorded)
 }
 
 // Whether the functions of this kind give the recorded answer.

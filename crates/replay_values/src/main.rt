@@ -1,5 +1,5 @@
 // Replays recorded answers of the Rust on soft values, kinds 6 to 9, from standard input, and counts, function by function, which
-// answers are the same. Lent for an answer are as many places as the Rust gave values, with another value in each.
+// answers are the same. The buffer for an answer has as many places as the Rust gave values, with another value in each.
 ghost use mathlib.Core.Path.{_≡_};
 ghost use lib.ListN.{length};
 use libc::STDOUT_FILENO;
@@ -7,7 +7,7 @@ use protection::Description;
 use protection::Judged;
 use viterbi::Decoding;
 
-// Room for one call. Each promise gives only the length.
+// Buffers of one call. Each promise gives only the length.
 fn some_values() -> [i8; 4096]
     ensures { λ r. ⌜ 4096 ≡ length r ⌝ }
 {

@@ -210,7 +210,7 @@ fn as_output(entry: u8) -> u32 {
 fn is_output(outputs: &[[[u8; 4]; 2]; 64], s: usize, b: usize, g: usize) -> bool
     requires { ⌜ (s < 64) × (b < 2) × (g < 4) ⌝ }
 {
-    as_output(outputs[s][b][g]) == parity::parity_of((2 * s + b) as u32, mask(g))
+    as_output(outputs[s][b][g]) == viterbi::parity_of((2 * s + b) as u32, mask(g))
 }
 
 fn held(outputs: &[[[u8; 4]; 2]; 64]) -> u64 {

@@ -18,7 +18,7 @@ fn least(a: usize, b: usize) -> usize
     if a < b { a } else { b }
 }
 
-// The bytes as soft values, as many as there is room for.
+// The bytes as soft values, as many as there are places.
 pub fn convert(bytes: &[u8], soft: &mut [i8])
     ensures { λ r. ⌜ now (soft .exit) ≡ converted (now (bytes .entry)) (now (soft .entry)) ⌝ }
 {

@@ -52,7 +52,7 @@ module _ (profile : List Region) (block : List ℕ) (fits : length (mask profile
   unfolding sent keptSize
   sent-length = length-puncture (mask profile) (codeWord (message block)) (mask-length ∙ sym word-length)
 
--- one stretch of a word under its own flags, and then the rest
+-- the front of a word under its own flags, and then the rest
 module _ {A : Type 0} where
   pub puncture-append : (ks ls : List Bool) (xs : List A) → length ks ≤ length xs → puncture (ks ++ ls) xs ≡ puncture ks (take (length ks) xs) ++ puncture ls (drop (length ks) xs)
   unfolding puncture

@@ -12,9 +12,9 @@ use lib.Signed.{_≤ℤ_, _<ℤ_}
 use Rattle.laws.specs.Integers.{up, dn, at}
 use Rattle.laws.proofs.Integers.{sum, neg-up, neg-dn, abs-sum, abs-parts, parts-le, parts-lt, lt-parts}
 use Rattle.spec_trellis.specs.Clean.{Agrees}
-use Rattle.spec_trellis.specs.Trellis.{bitN, outBit, signBy, soft, branch, endOf, startScore, scoreOf, Wins, Ends, Permits, Best}
+use Rattle.spec_trellis.specs.Trellis.{bitN, outBit, signBy, soft, branch, endOf, startScore, scoreOf, Wins, Ends, Permits, Best, SamePath}
 use Rattle.spec_trellis.proofs.Trellis.{sign-abs, branch-opposite, end-lt}
-use Rattle.spec_trellis.proofs.TrellisOrder.{SamePath, wins-total}
+use Rattle.spec_trellis.proofs.TrellisOrder.{wins-total}
 
 -- ---- one value
 

@@ -2,77 +2,26 @@
 -- Assumes nothing.
 use mathlib.Core.Path.{_≡_, refl, sym, ap, ap₂, _∙_, subst}
 use mathlib.Core.Bool.{Bool, true, false, true≢false, false≢true}
-use mathlib.Core.List.{List, [], _∷_, _++_, map, reverse, reverseAux}
+use mathlib.Core.List.{List, [], _∷_, _++_, map, reverse}
 use mathlib.Core.Logic.{inl, inr}
-use Prim.Native.Nat.{ℕ, zero, suc, _+_, _*_, _<_, _≤_}
+use Prim.Native.Nat.{ℕ, zero, suc, _+_, _*_, _<_}
 use native.Mathlib.Omega.{arith}
-use native.Mathlib.Numerals.{add-six}
-use native.Mathlib.Nat.{add-zero, zero-add, not-suc-le-zero}
-use lib.ListN.{length, getD, length-reverse, length-map, List·getD-eq-default}
+use native.Mathlib.Nat.{add-zero, not-suc-le-zero}
+use lib.ListN.{length, getD}
 use lib.IntN.{ℤ, pos}
 use Rattle.laws.specs.Bits.{AreBits}
 use Rattle.laws.specs.Integers.{at}
-use Rattle.laws.proofs.Bits.{below-head, below-tail}
 use Rattle.laws.proofs.Words.{bit-lt}
-use Rattle.spec_trellis.specs.Clean.{Agrees}
+use Rattle.spec_trellis.specs.Clean.{Agrees, sixZeros, sentPath, CleanWord}
+use Rattle.spec_trellis.specs.Theorems.{CleanIsDecoded}
 use Rattle.en300401.specs.MotherCode.{codeBit, codeWord}
 use Rattle.en300401.specs.Puncturing.{Region, mask, puncture, depuncture}
-use Rattle.spec_trellis.specs.Trellis.{bitN, soft, endOf, scoreOf, Ends, zeroEnd, freeEnd, Permits, Best}
-use Rattle.spec_trellis.proofs.Trellis.{isOdd, odd-is}
-use Rattle.spec_trellis.proofs.TrellisOrder.{SamePath, best-unique}
-use Rattle.spec_trellis.proofs.MotherCode.{Spells, nothing, next, output-is, six-zeros}
+use Rattle.spec_trellis.specs.Trellis.{bitN, soft, scoreOf, Ends, Best, SamePath}
+use Rattle.spec_trellis.proofs.TrellisOrder.{best-unique}
+use Rattle.spec_trellis.proofs.MotherCode.{Spells, nothing, next, output-is, length-sent, sent-permitted, sent-bits, sent-spells}
 use Rattle.spec_trellis.proofs.Clean.{Fair, agrees-not-zero, Clean, none, step, weights, clean-score, clean-best}
 use Rattle.en300401.proofs.MotherCode.{word-at, length-word}
 use Rattle.en300401.proofs.Puncturing.{firsts-mask, first-kept}
-
--- ---- the path of a message
-
-abbrev pub sixZeros : List ℕ
-sixZeros = 0 ∷ 0 ∷ 0 ∷ 0 ∷ 0 ∷ 0 ∷ []
-
--- the message and six zeros, the newest bit first
-unfoldable pub sentPath : List ℕ → List Bool
-sentPath m = false ∷ false ∷ false ∷ false ∷ false ∷ false ∷ reverse (map isOdd m)
-
-module _ (m : List ℕ) where
-  pub length-sent : length (sentPath m) ≡ length m + 6
-  unfolding sentPath
-  length-sent = ap (λ (n : ℕ). suc (suc (suc (suc (suc (suc n)))))) (length-reverse (map isOdd m) ∙ length-map m isOdd) ∙ sym (add-six (length m))
-
-  -- it ends in state 0, so both decoders permit it
-  pub sent-permitted : (ends : Ends) → Permits ends (endOf 0 (sentPath m))
-  unfolding sentPath Permits
-  sent-permitted zeroEnd = six-zeros 0 (reverse (map isOdd m))
-  sent-permitted freeEnd = tt
-
--- its bits, the oldest first
-pub sent-bits : (m : List ℕ) → AreBits m → reverse (map bitN (sentPath m)) ≡ m ++ sixZeros
-unfolding sentPath
-sent-bits m h = go m h [] sixZeros
-  where
-    go : (m : List ℕ) → AreBits m → (bs : List Bool) (r : List ℕ) → reverseAux (map bitN (reverseAux (map isOdd m) bs)) r ≡ reverseAux (map bitN bs) (m ++ r)
-    go [] h bs r = refl
-    go (x ∷ m) h bs r = go m (below-tail h) (isOdd x ∷ bs) r ∙ ap (λ (n : ℕ). reverseAux (map bitN bs) (n ∷ m ++ r)) (odd-is x (below-head h))
-
--- it spells the message, zero beyond
-sent-spells : (m : List ℕ) → AreBits m → Spells (λ (i : ℕ). getD m i 0) (sentPath m)
-unfolding sentPath
-sent-spells m h =
-    let p : Spells a (reverse (map isOdd m)) = bits m [] h (λ i. ap a (sym (zero-add i))) nothing in
-    let l : length m ≤ length (reverse (map isOdd m)) = omega (arith, length-reverse (map isOdd m), length-map m isOdd) in
-    more (more (more (more (more (more p (omega arith)) (omega arith)) (omega arith)) (omega arith)) (omega arith)) (omega arith)
-  where
-    a : ℕ → ℕ
-    a i = getD m i 0
-
-    bits : (l : List ℕ) (bs : List Bool) → AreBits l → ((i : ℕ) → getD l i 0 ≡ a (length bs + i)) → Spells a bs → Spells a (reverseAux (map isOdd l) bs)
-    bits [] bs k e p = p
-    bits (x ∷ l) bs k e p =
-        bits l (isOdd x ∷ bs) (below-tail k) (λ i. e (suc i) ∙ ap a (omega arith))
-        (next (odd-is x (below-head k) ∙ e 0 ∙ ap a (add-zero (length bs))) p)
-
-    more : {bs : List Bool} → Spells a bs → length m ≤ length bs → Spells a (false ∷ bs)
-    more p l = next (sym (List·getD-eq-default m 0 l)) p
 
 -- ---- the values
 
@@ -107,13 +56,6 @@ heard-clean {xs} {a} h (next {b} {bs} e p) =
 
 -- ---- a clean word
 
--- a message, a mask for its code word that keeps the first of each four places, and values of which every kept one agrees with its bit
-pub record CleanWord (m : List ℕ) (ks : List Bool) (vs : List ℤ) : Type 0 where
-  pub bits : AreBits m
-  pub long : length ks ≡ 4 * (length m + 6)
-  pub firsts : (k : ℕ) → k < length m + 6 → getD ks (4 * k) false ≡ true
-  pub agree : (j : ℕ) → j < length ks → getD ks j false ≡ true → Agrees (at (depuncture ks vs) j) (getD (codeWord m) j 0)
-
 module _ {m : List ℕ} {ks : List Bool} {vs : List ℤ} (c : CleanWord m ks vs) where
   word-heard : Heard (depuncture ks vs) (λ (i : ℕ). getD m i 0) (length m + 6)
   word-heard =
@@ -136,10 +78,11 @@ module _ {m : List ℕ} {ks : List Bool} {vs : List ℤ} (c : CleanWord m ks vs)
   pub clean-word : (ends : Ends) → Best (depuncture ks vs) (length m + 6) ends 0 (sentPath m)
   clean-word ends = clean-best word-clean (length-sent m) ends (sent-permitted m ends)
 
-  -- so whatever path is best, it is that one, and its bits are the message's and six zeros
+  -- so whatever path is best, it is that one
   pub clean-path : {ends : Ends} {s : ℕ} {bs : List Bool} → Best (depuncture ks vs) (length m + 6) ends s bs → SamePath 0 (sentPath m) s bs
   clean-path {ends} b = best-unique (clean-word ends) b
 
+  -- and its bits are the message's and six zeros
   pub clean-bits : {ends : Ends} {s : ℕ} {bs : List Bool} → Best (depuncture ks vs) (length m + 6) ends s bs → reverse (map bitN bs) ≡ m ++ sixZeros
   clean-bits b = ap (λ (l : List Bool). reverse (map bitN l)) (sym (clean-path b .bits-are)) ∙ sent-bits m (c .bits)
 
@@ -148,6 +91,9 @@ module _ {m : List ℕ} {ks : List Bool} {vs : List ℤ} (c : CleanWord m ks vs)
   clean-word-score b =
       sym (ap₂ (scoreOf (depuncture ks vs)) (clean-path b .start-is) (clean-path b .bits-are))
       ∙ clean-score word-clean ∙ ap (λ (n : ℕ). pos (weights (depuncture ks vs) n)) (length-sent m)
+
+pub clean-decodes : CleanIsDecoded
+clean-decodes m ks vs ends s bs c b = clean-bits c b
 
 -- ---- from what was sent
 

@@ -1,24 +1,31 @@
 -- The trellis is the mother code: the path of a message gives the bits of clause 11.1.1, and six zeros bring it back to state 0.
 -- Assumes nothing.
-use mathlib.Core.Path.{_≡_, sym, ap, ap₂, _∙_, subst}
+use mathlib.Core.Path.{_≡_, refl, sym, ap, ap₂, _∙_, subst}
 use mathlib.Core.Bool.{Bool, false}
-use mathlib.Core.List.{List, [], _∷_, map, reverse, reverseAux, reverseAux-eq}
-use Prim.Native.Nat.{ℕ, zero, suc, _+_, _*_, _-_, _/_, _%_, _<_}
+use mathlib.Core.List.{List, [], _∷_, _++_, map, reverse, reverseAux, reverseAux-eq}
+use Prim.Native.Nat.{ℕ, zero, suc, _+_, _*_, _-_, _/_, _%_, _<_, _≤_}
 use native.Mathlib.Omega.{arith}
-use native.Mathlib.Nat.{suc-sub-suc, sub-zero}
+use native.Mathlib.Decide.{decLt}
+use native.Mathlib.Numerals.{add-six}
+use native.Mathlib.Nat.{add-zero, zero-add, suc-sub-suc, sub-zero}
 use lib.Count.{ones, onesIn}
 use lib.Dec.{T, eqb, eqb→eq, leb·zero, leb·suc-zero, leb·suc-suc}
-use lib.ListN.{length, getD, length-reverse, length-map}
-use lib.Seq.{getD-at}
+use lib.ListN.{length, getD, length-append, length-reverse, length-map, List·getD-append, List·getD-eq-default}
+use lib.Seq.{getD-at, getD-append-add, ext-getD}
+use Rattle.laws.specs.Bits.{AreBits}
 use Rattle.laws.specs.Tables.{every}
 use Rattle.laws.specs.Lists.{listFrom, listOf}
 use Rattle.laws.specs.Words.{pickN}
+use Rattle.laws.proofs.Bits.{below-head, below-tail}
 use Rattle.laws.proofs.Lists.{length-listOf, listOf-at}
 use Rattle.laws.proofs.Tables.{rule-at}
 use Rattle.laws.proofs.Words.{bit-lt}
-use Rattle.en300401.specs.MotherCode.{earlier, x0, x1, x2, codeBit}
-use Rattle.spec_trellis.specs.Trellis.{bitN, register, nextState, parity, outBit, endOf}
-use Rattle.spec_trellis.proofs.Trellis.{end-lt}
+use Rattle.en300401.specs.MotherCode.{earlier, x0, x1, x2, codeBit, codeWord}
+use Rattle.en300401.proofs.MotherCode.{word-at, length-word}
+use Rattle.spec_trellis.specs.Trellis.{bitN, isOdd, register, nextState, parity, outBit, endOf, Ends, zeroEnd, freeEnd, Permits}
+use Rattle.spec_trellis.specs.Clean.{sixZeros, sentPath}
+use Rattle.spec_trellis.specs.Theorems.{spelt, OutputIsCodeBit, outputsOf, PathIsCodeWord}
+use Rattle.spec_trellis.proofs.Trellis.{odd-is, end-lt}
 
 -- ---- seven bits of the message
 
@@ -49,10 +56,6 @@ stateAt a i = six (earlier a i 1) (earlier a i 2) (earlier a i 3) (earlier a i 4
 pub data Spells (a : ℕ → ℕ) : List Bool → Type 0 where
   nothing : Spells a []
   next : {b : Bool} {bs : List Bool} → bitN b ≡ a (length bs) → Spells a bs → Spells a (b ∷ bs)
-
--- the bits that a path spells, the oldest first, zero beyond
-unfoldable pub spelt : List Bool → ℕ → ℕ
-spelt bs i = getD (reverse (map bitN bs)) i 0
 
 -- each of the seven bits is 0 or 1
 spelt-lt : {a : ℕ → ℕ} {bs : List Bool} → Spells a bs → (k : ℕ) → earlier a (length bs) (suc k) < 2
@@ -167,7 +170,7 @@ unfolding spelt
 spells-spelt bs = spells-own bs []
 
 -- output g of the step that appends bit b to a path from state 0 is bit x_g of clause 11.1.1
-pub path-output : (b : Bool) (bs : List Bool) (g : ℕ) → g < 4 → outBit (endOf 0 bs) (bitN b) g ≡ codeBit (spelt (b ∷ bs)) g (length bs)
+pub path-output : OutputIsCodeBit
 path-output b bs g l = go (spells-spelt (b ∷ bs))
   where
     go : Spells (spelt (b ∷ bs)) (b ∷ bs) → outBit (endOf 0 bs) (bitN b) g ≡ codeBit (spelt (b ∷ bs)) g (length bs)
@@ -185,3 +188,92 @@ six-zeros s bs = go (endOf s bs)
 
     go : (n : ℕ) → (2 * ((2 * ((2 * ((2 * ((2 * ((2 * n + 0) % 64) + 0) % 64) + 0) % 64) + 0) % 64) + 0) % 64) + 0) % 64 ≡ 0
     go n = simp twice (omega arith)
+
+-- ---- the path of a message: the message and six zeros
+
+module _ (m : List ℕ) where
+  pub length-sent : length (sentPath m) ≡ length m + 6
+  unfolding sentPath
+  length-sent = ap (λ (n : ℕ). suc (suc (suc (suc (suc (suc n)))))) (length-reverse (map isOdd m) ∙ length-map m isOdd) ∙ sym (add-six (length m))
+
+  -- it ends in state 0, so both decoders permit it
+  pub sent-permitted : (ends : Ends) → Permits ends (endOf 0 (sentPath m))
+  unfolding sentPath Permits
+  sent-permitted zeroEnd = six-zeros 0 (reverse (map isOdd m))
+  sent-permitted freeEnd = tt
+
+-- its bits, the oldest first
+pub sent-bits : (m : List ℕ) → AreBits m → reverse (map bitN (sentPath m)) ≡ m ++ sixZeros
+unfolding sentPath
+sent-bits m h = go m h [] sixZeros
+  where
+    go : (m : List ℕ) → AreBits m → (bs : List Bool) (r : List ℕ) → reverseAux (map bitN (reverseAux (map isOdd m) bs)) r ≡ reverseAux (map bitN bs) (m ++ r)
+    go [] h bs r = refl
+    go (x ∷ m) h bs r = go m (below-tail h) (isOdd x ∷ bs) r ∙ ap (λ (n : ℕ). reverseAux (map bitN bs) (n ∷ m ++ r)) (odd-is x (below-head h))
+
+-- it spells the message, zero beyond
+pub sent-spells : (m : List ℕ) → AreBits m → Spells (λ (i : ℕ). getD m i 0) (sentPath m)
+unfolding sentPath
+sent-spells m h =
+    let p : Spells a (reverse (map isOdd m)) = bits m [] h (λ i. ap a (sym (zero-add i))) nothing in
+    let l : length m ≤ length (reverse (map isOdd m)) = omega (arith, length-reverse (map isOdd m), length-map m isOdd) in
+    more (more (more (more (more (more p (omega arith)) (omega arith)) (omega arith)) (omega arith)) (omega arith)) (omega arith)
+  where
+    a : ℕ → ℕ
+    a i = getD m i 0
+
+    bits : (l : List ℕ) (bs : List Bool) → AreBits l → ((i : ℕ) → getD l i 0 ≡ a (length bs + i)) → Spells a bs → Spells a (reverseAux (map isOdd l) bs)
+    bits [] bs k e p = p
+    bits (x ∷ l) bs k e p =
+        bits l (isOdd x ∷ bs) (below-tail k) (λ i. e (suc i) ∙ ap a (omega arith))
+        (next (odd-is x (below-head k) ∙ e 0 ∙ ap a (add-zero (length bs))) p)
+
+    more : {bs : List Bool} → Spells a bs → length m ≤ length bs → Spells a (false ∷ bs)
+    more p l = next (sym (List·getD-eq-default m 0 l)) p
+
+-- ---- the code word
+
+outputs-length : (s : ℕ) (bs : List Bool) → length (outputsOf s bs) ≡ 4 * length bs
+unfolding outputsOf
+outputs-length s [] = refl
+outputs-length s (b ∷ bs) = length-append (outputsOf s bs) _ ∙ omega (arith, outputs-length s bs)
+
+-- place 4 k + g of the outputs along a path that spells a message is output g of the clause's step k
+outputs-at : {a : ℕ → ℕ} {bs : List Bool} → Spells a bs → (k g : ℕ) → k < length bs → g < 4 → getD (outputsOf 0 bs) (4 * k + g) 0 ≡ codeBit a g k
+unfolding outputsOf
+outputs-at nothing k g h l = absurd (omega arith)
+outputs-at {a} (next {b} {bs} e p) k g h l = go (decLt k (length bs)) (λ i. outputs-at p k g i l)
+  where
+    last : List ℕ
+    last = outBit (endOf 0 bs) (bitN b) 0 ∷ outBit (endOf 0 bs) (bitN b) 1 ∷ outBit (endOf 0 bs) (bitN b) 2 ∷ outBit (endOf 0 bs) (bitN b) 3 ∷ []
+
+    here : (g : ℕ) → g < 4 → getD last g 0 ≡ codeBit a g (length bs)
+    here zero l = output-is p (bitN b) e (bit-lt b) 0 l
+    here (suc zero) l = output-is p (bitN b) e (bit-lt b) 1 l
+    here (suc (suc zero)) l = output-is p (bitN b) e (bit-lt b) 2 l
+    here (suc (suc (suc zero))) l = output-is p (bitN b) e (bit-lt b) 3 l
+    here (suc (suc (suc (suc g)))) l = absurd (omega arith)
+
+    go : Dec (k < length bs) → (k < length bs → getD (outputsOf 0 bs) (4 * k + g) 0 ≡ codeBit a g k) → getD (outputsOf 0 bs ++ last) (4 * k + g) 0 ≡ codeBit a g k
+    go (yes i) again = List·getD-append (outputsOf 0 bs) last 0 (4 * k + g) (omega (arith, outputs-length 0 bs)) ∙ again i
+    go (no i) again =
+        let is : k ≡ length bs = omega arith in
+        ap (λ (n : ℕ). getD (outputsOf 0 bs ++ last) n 0) (omega (arith, outputs-length 0 bs))
+        ∙ getD-append-add (outputsOf 0 bs) last g 0 ∙ here g l ∙ ap (codeBit a g) (sym is)
+
+-- walked from state 0, a message and its six zeros give the message's code word
+pub path-word : PathIsCodeWord
+path-word m h = ext-getD 0 (outputsOf 0 (sentPath m)) (codeWord m) (long ∙ sym (length-word m)) each
+  where
+    long : length (outputsOf 0 (sentPath m)) ≡ 4 * (length m + 6)
+    long = outputs-length 0 (sentPath m) ∙ ap (λ (n : ℕ). 4 * n) (length-sent m)
+
+    each : (j : ℕ) → j < length (outputsOf 0 (sentPath m)) → getD (outputsOf 0 (sentPath m)) j 0 ≡ getD (codeWord m) j 0
+    each j l =
+        let k : ℕ = j / 4 in
+        let g : ℕ = j % 4 in
+        let is : j ≡ 4 * k + g = omega arith in
+        let short : k < length m + 6 = omega (arith, long) in
+        ap (λ (n : ℕ). getD (outputsOf 0 (sentPath m)) n 0) is
+        ∙ outputs-at (sent-spells m h) k g (omega (arith, length-sent m)) (omega arith)
+        ∙ sym (word-at m k g short (omega arith)) ∙ ap (λ (n : ℕ). getD (codeWord m) n 0) (sym is)

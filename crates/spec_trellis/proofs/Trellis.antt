@@ -17,7 +17,8 @@ use Rattle.laws.proofs.Integers.{abs-sum, abs-neg}
 use Rattle.laws.proofs.Lists.{listOf-at}
 use Rattle.laws.proofs.Tables.{rule-at}
 use Rattle.laws.proofs.Words.{bit-lt}
-use Rattle.spec_trellis.specs.Trellis.{bitN, parity, outBit, signBy, soft, branch, nextState, endOf}
+use Rattle.spec_trellis.specs.Trellis.{bitN, isOdd, parity, outBit, signBy, soft, Softs, branch, nextState, endOf}
+use Rattle.spec_trellis.specs.Program.{Soft}
 
 -- a soft value, signed by an output
 pub sign-zero : (o : ℕ) (v : ℤ) → o ≡ 0 → signBy o v ≡ negℤ v
@@ -79,11 +80,6 @@ before-cases e t b h q = go (decLt e 32)
 pub bit-is : (e t : ℕ) (b : Bool) → nextState e (bitN b) ≡ t → bitN b ≡ t % 2
 bit-is e t b q = sym (next-bit e b) ∙ ap (λ (n : ℕ). n % 2) q
 
--- a state's lowest bit, as the bit that led to it
-abbrev pub isOdd : ℕ → Bool
-isOdd zero = false
-isOdd (suc n) = true
-
 pub odd-is : (n : ℕ) → n < 2 → bitN (isOdd n) ≡ n
 odd-is zero h = refl
 odd-is (suc n) h = omega arith
@@ -91,17 +87,6 @@ odd-is (suc n) h = omega arith
 pub odd-bit : (b : Bool) → isOdd (bitN b) ≡ b
 odd-bit true = refl
 odd-bit false = refl
-
--- each soft value of the first n steps is at most 128 in size: an i8
-abbrev pub Softs : List ℤ → ℕ → Type 0
-Softs xs n = (i : ℕ) → i < 4 * n → natAbs (at xs i) ≤ 128
-
--- each of the four soft values is at most 128 in size
-pub record Soft (v0 v1 v2 v3 : ℤ) : Type 0 where
-  pub b0 : natAbs v0 ≤ 128
-  pub b1 : natAbs v1 ≤ 128
-  pub b2 : natAbs v2 ≤ 128
-  pub b3 : natAbs v3 ≤ 128
 
 pub softs-next : (xs : List ℤ) (n : ℕ) → Softs xs n → Soft (soft xs n 0) (soft xs n 1) (soft xs n 2) (soft xs n 3) → Softs xs (n + 1)
 softs-next xs n q h i l = go (decLt i (4 * n)) (ℕ-discrete i (4 * n + 0)) (ℕ-discrete i (4 * n + 1)) (ℕ-discrete i (4 * n + 2)) (ℕ-discrete i (4 * n + 3))

@@ -11,9 +11,10 @@ use lib.ListN.{length}
 use lib.IntN.{ℤ}
 use lib.Signed.{_≤ℤ_, _<ℤ_}
 use Rattle.laws.specs.Integers.{up, dn}
-use Rattle.laws.proofs.Integers.{lt-parts, parts-lt, parts-eq, ≤ℤ-antisym}
-use Rattle.spec_trellis.specs.Trellis.{bitN, nextState, endOf, scoreOf, FirstLower, Wins, Ends, Best, BestInto, Top}
-use Rattle.spec_trellis.proofs.Trellis.{next-bit, bit-is, isOdd, odd-bit}
+use Rattle.laws.proofs.Integers.{lt-parts, parts-lt, parts-le, parts-eq, ≤ℤ-antisym}
+use Rattle.spec_trellis.specs.Trellis.{bitN, nextState, endOf, scoreOf, FirstLower, Wins, SamePath, Ends, Best, NoneAbove, BestInto, Top, isOdd}
+use Rattle.spec_trellis.specs.Theorems.{OrderTotal, OrderStrict, BestUnique, BestIsMost}
+use Rattle.spec_trellis.proofs.Trellis.{next-bit, bit-is, odd-bit}
 
 -- equal ends have equal newest bits
 pub bit-same : (e e' : ℕ) (b b' : Bool) → nextState e (bitN b) ≡ nextState e' (bitN b') → b ≡ b'
@@ -26,11 +27,6 @@ Lower s bs s' bs' = (endOf s bs < endOf s' bs') ⊎ ((endOf s bs ≡ endOf s' bs
 
 abbrev Tied : List ℤ → ℕ → List Bool → ℕ → List Bool → Type 0
 Tied xs s bs s' bs' = (scoreOf xs s' bs' <ℤ scoreOf xs s bs) ⊎ ((scoreOf xs s' bs' ≡ scoreOf xs s bs) × Lower s bs s' bs')
-
--- one path: the same start and the same bits
-pub record SamePath (s : ℕ) (bs : List Bool) (s' : ℕ) (bs' : List Bool) : Type 0 where
-  pub start-is : s ≡ s'
-  pub bits-are : bs ≡ bs'
 
 pub lower-antisym : (s : ℕ) (bs : List Bool) (s' : ℕ) (bs' : List Bool) → endOf s bs ≡ endOf s' bs' → FirstLower s bs s' bs' → FirstLower s' bs' s bs → SamePath s bs s' bs'
 unfolding FirstLower endOf
@@ -64,7 +60,7 @@ lower-total s (b ∷ bs) s' (b' ∷ bs') l e = go (decLt (endOf s bs) (endOf s' 
     go (no h) (no q) r = inr (inl (omega arith))
 
 -- two paths that do not lose to each other are one
-pub wins-antisym : (xs : List ℤ) (s : ℕ) (bs : List Bool) (s' : ℕ) (bs' : List Bool) → Wins xs s bs s' bs' → Wins xs s' bs' s bs → SamePath s bs s' bs'
+pub wins-antisym : OrderStrict
 unfolding Wins
 wins-antisym xs s bs s' bs' f g = go f g
   where
@@ -81,7 +77,7 @@ wins-antisym xs s bs s' bs' f g = go f g
     go (inr r) (inr r') = ends (r .1) (r' .1)
 
 -- of two paths of one length one does not lose to the other
-pub wins-total : (xs : List ℤ) (s : ℕ) (bs : List Bool) (s' : ℕ) (bs' : List Bool) → length bs ≡ length bs' → Wins xs s bs s' bs' ⊎ Wins xs s' bs' s bs
+pub wins-total : OrderTotal
 unfolding Wins
 wins-total xs s bs s' bs' l = scores (decLt (up a + dn a') (up a' + dn a)) (decLt (up a' + dn a) (up a + dn a'))
   where
@@ -114,6 +110,9 @@ pub best-unique : {xs : List ℤ} {n : ℕ} {ends : Ends} {s : ℕ} {bs : List B
 best-unique {xs} {n} {ends} {s} {bs} {s'} {bs'} f g =
     wins-antisym xs s bs s' bs' (f .wins s' (g .start-lt) bs' (g .long) (g .permitted)) (g .wins s (f .start-lt) bs (f .long) (f .permitted))
 
+pub path-unique : BestUnique
+path-unique xs n ends s bs s' bs' = best-unique
+
 pub into-unique : {xs : List ℤ} {n e : ℕ} {s : ℕ} {bs : List Bool} {s' : ℕ} {bs' : List Bool} → BestInto xs n e s bs → BestInto xs n e s' bs' → SamePath s bs s' bs'
 into-unique {xs} {n} {e} {s} {bs} {s'} {bs'} f g =
     wins-antisym xs s bs s' bs' (f .wins s' (g .start-lt) bs' (g .long) (g .into)) (g .wins s (f .start-lt) bs (f .long) (f .into))
@@ -124,3 +123,17 @@ top-unique {xs} {n} {b} {c} f g =
     ≤ℤ-antisym
     (subst (λ (z : ℤ). z ≤ℤ c) (f .scores) (g .most (f .start) (f .start-lt) (f .path) (f .long)))
     (subst (λ (z : ℤ). z ≤ℤ b) (g .scores) (f .most (g .start) (g .start-lt) (g .path) (g .long)))
+
+-- a path that does not lose scores at least as much
+pub wins-most : (xs : List ℤ) (s : ℕ) (bs : List Bool) (s' : ℕ) (bs' : List Bool) → Wins xs s bs s' bs' → scoreOf xs s' bs' ≤ℤ scoreOf xs s bs
+unfolding Wins
+wins-most xs s bs s' bs' w = go w
+  where
+    go : Tied xs s bs s' bs' → scoreOf xs s' bs' ≤ℤ scoreOf xs s bs
+    go (inl l) = parts-le (scoreOf xs s' bs') (scoreOf xs s bs) (omega (arith, lt-parts l))
+    go (inr r) = parts-le (scoreOf xs s' bs') (scoreOf xs s bs) (omega (arith, ap up (r .0), ap dn (r .0)))
+
+-- so no permitted path scores above the best one
+pub best-most : BestIsMost
+unfolding NoneAbove
+best-most xs n ends s bs f s' h bs' l p = wins-most xs s bs s' bs' (f .wins s' h bs' l p)

@@ -7,32 +7,19 @@ use Prim.Native.Nat.{ℕ, suc, _+_, _/_, _%_, _<_, _≤_}
 use native.Mathlib.Omega.{arith}
 use native.Mathlib.Decide.{ℕ-discrete}
 use native.Mathlib.Numerals.{add-one}
-use lib.ListN.{getD}
 use lib.IntN.{ℤ, pos, natAbs, _-ℤ_, +ℤ-idr}
 use lib.Signed.{ltZ, _≤ℤ_, _<ℤ_, ≤ℤ-refl}
 use Rattle.laws.specs.Integers.{up, dn, pickZ}
 use Rattle.laws.specs.Words.{pickN, wordOf}
 use Rattle.laws.proofs.Integers.{diff, abs-sum, parts-le, le-parts, parts-lt, parts-eq, ltZ-true, ltZ-false, ≤ℤ-trans}
 use Rattle.laws.proofs.Words.{word-ext}
-use Rattle.spec_trellis.specs.Trellis.{branch, startScore, Top, Subtracted, none, kept, renewed}
-use Rattle.spec_trellis.proofs.Trellis.{Softs, branch-le}
-use Rattle.spec_trellis.proofs.TrellisProgram.{takes, acs, survivor, takesAt, way-is, pick-lt, takes-shift, acs-shift, survivor-top}
+use Rattle.spec_trellis.specs.Trellis.{branch, startScore, Top, none, kept, renewed, Softs}
+use Rattle.spec_trellis.specs.Program.{takes, acs, survivor, takesAt, Greatest, FirstGreatest, Renormalised, stays, falls, Running}
+use Rattle.spec_trellis.proofs.Trellis.{branch-le}
+use Rattle.spec_trellis.proofs.TrellisProgram.{way-is, pick-lt, takes-shift, acs-shift, survivor-top}
 use Rattle.spec_trellis.proofs.TrellisSubtracted.{running-within}
 
 -- ---- the greatest of some values
-
--- m is the greatest of the first n values of σ
-pub record Greatest (σ : ℕ → ℤ) (n : ℕ) (m : ℤ) : Type 0 where
-  pub above : (s : ℕ) → s < n → σ s ≤ℤ m
-  pub place : ℕ
-  pub place-lt : place < n
-  pub is : m ≡ σ place
-
--- p is the first place of the greatest of the first n values
-pub record FirstGreatest (σ : ℕ → ℤ) (n p : ℕ) : Type 0 where
-  pub below : p < n
-  pub above : (s : ℕ) → s < n → σ s ≤ℤ σ p
-  pub first : (s : ℕ) → s < p → σ s <ℤ σ p
 
 only-zero : (s : ℕ) → s < 1 → 0 ≡ s
 only-zero s h = omega arith
@@ -87,20 +74,7 @@ first-next σ n p t = go (ltZ (σ p) (σ n)) refl
           first = t .first;
         }
 
--- ---- renormalising
-
--- document 01: where the best value exceeds 100,000, it is subtracted from all 64
-pub data Renormalised (σ τ : ℕ → ℤ) : Type 0 where
-  stays : (m : ℤ) → Greatest σ 64 m → m ≤ℤ pos 100000 → ((s : ℕ) → s < 64 → τ s ≡ σ s) → Renormalised σ τ
-  falls : (m : ℤ) → Greatest σ 64 m → pos 100000 <ℤ m → ((s : ℕ) → s < 64 → τ s ≡ σ s -ℤ m) → Renormalised σ τ
-
 -- ---- the scores before step k
-
--- σ is the survivors' scores less the total subtracted
-pub record Running (xs : List ℤ) (k : ℕ) (σ : ℕ → ℤ) : Type 0 where
-  pub total : ℤ
-  pub subtracted : Subtracted xs k total
-  pub each : (s : ℕ) → s < 64 → σ s ≡ survivor xs k s -ℤ total
 
 pub running-zero : (xs : List ℤ) (σ : ℕ → ℤ) → ((t : ℕ) → t < 64 → σ t ≡ startScore t) → Running xs 0 σ
 unfolding survivor
@@ -163,11 +137,3 @@ module _ (xs : List ℤ) (k : ℕ) (σ : ℕ → ℤ) (r : Running xs k σ) wher
               let es = e s h ∙ ap (λ (z : ℤ). z -ℤ m) (new-each s h) in
               es ∙ parts-eq ((w -ℤ d) -ℤ m) (w -ℤ v) (omega (arith, diff (w -ℤ d) m, diff w d, diff w v, diff v d, ap up ep, ap dn ep));
         })
-
--- ---- after the last step
-
--- the scores after n steps, and the words of the choices: bit s of word t says that s took its higher predecessor
-pub record Forward (xs : List ℤ) (n : ℕ) (σ : ℕ → ℤ) (words : List ℕ) : Type 0 where
-  pub running : Running xs n σ
-  pub softs : Softs xs n
-  pub words-are : (t : ℕ) → t < n → getD words t 0 ≡ wordOf (takesAt xs t) 64

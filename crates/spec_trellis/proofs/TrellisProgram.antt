@@ -14,48 +14,9 @@ use lib.Signed.{ltZ, _≤ℤ_, _<ℤ_, ≤ℤ-refl}
 use Rattle.laws.specs.Integers.{up, dn, pickZ}
 use Rattle.laws.specs.Words.{pickN}
 use Rattle.laws.proofs.Integers.{sum, diff, parts-le, le-parts, parts-lt, lt-parts, parts-eq, ltZ-true, ltZ-false, ltZ-shift, ≤ℤ-trans, ≤ℤ-antisym, +ℤ-mono}
-use Rattle.spec_trellis.specs.Trellis.{bitN, branch, nextState, endOf, startScore, scoreOf, FirstLower, Wins, zeroEnd, freeEnd, Permits, Best, BestInto, Top}
-use Rattle.spec_trellis.proofs.Trellis.{next-bit, next-low, next-high, end-lt, before-cases, bit-is, isOdd, odd-is}
-
--- ---- one step: σ the scores by state, β what the step adds by state and input
-
--- the two ways into state t, by the lower and the higher predecessor
-unfoldable pub lowWay : (ℕ → ℤ) → (ℕ → ℕ → ℤ) → ℕ → ℤ
-lowWay σ β t = σ (t / 2) +ℤ β (t / 2) (t % 2)
-
-unfoldable pub highWay : (ℕ → ℤ) → (ℕ → ℕ → ℤ) → ℕ → ℤ
-highWay σ β t = σ (t / 2 + 32) +ℤ β (t / 2 + 32) (t % 2)
-
--- does t take the higher predecessor
-unfoldable pub takes : (ℕ → ℤ) → (ℕ → ℕ → ℤ) → ℕ → Bool
-takes σ β t = ltZ (lowWay σ β t) (highWay σ β t)
-
--- add, compare, select
-unfoldable pub acs : (ℕ → ℤ) → (ℕ → ℕ → ℤ) → ℕ → ℤ
-acs σ β t = pickZ (takes σ β t) (highWay σ β t) (lowWay σ β t)
-
--- ---- all steps
-
--- the score of the survivor into t after n steps
-unfoldable pub survivor : List ℤ → ℕ → ℕ → ℤ
-survivor xs zero t = startScore t
-survivor xs (suc k) t = acs (survivor xs k) (branch xs k) t
-
--- does t take the higher predecessor at step k
-unfoldable pub takesAt : List ℤ → ℕ → ℕ → Bool
-takesAt xs k t = takes (survivor xs k) (branch xs k) t
-
-unfoldable pub predOf : List ℤ → ℕ → ℕ → ℕ
-predOf xs k t = pickN (takesAt xs k t) (t / 2 + 32) (t / 2)
-
--- the survivor into t after n steps, read backwards
-unfoldable pub bitsInto : List ℤ → ℕ → ℕ → List Bool
-bitsInto xs zero t = []
-bitsInto xs (suc k) t = isOdd (t % 2) ∷ bitsInto xs k (predOf xs k t)
-
-unfoldable pub startInto : List ℤ → ℕ → ℕ → ℕ
-startInto xs zero t = t
-startInto xs (suc k) t = startInto xs k (predOf xs k t)
+use Rattle.spec_trellis.specs.Trellis.{bitN, branch, nextState, endOf, startScore, scoreOf, FirstLower, Wins, zeroEnd, freeEnd, Permits, Best, BestInto, Top, isOdd}
+use Rattle.spec_trellis.specs.Program.{lowWay, highWay, takes, acs, survivor, takesAt, predOf, bitsInto, startInto}
+use Rattle.spec_trellis.proofs.Trellis.{next-bit, next-low, next-high, end-lt, before-cases, bit-is, odd-is}
 
 -- ---- the new score is at least each way's, and is one of them
 module _ (σ : ℕ → ℤ) (β : ℕ → ℕ → ℤ) (t : ℕ) where

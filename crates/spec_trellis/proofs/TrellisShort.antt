@@ -9,16 +9,17 @@ use lib.Dec.{T, ltb}
 use lib.ListN.{length}
 use lib.IntN.{ℤ, pos, natAbs}
 use lib.Signed.{leZ, ltZ}
-use Rattle.laws.specs.Integers.{up, dn, at}
+use Rattle.laws.specs.Integers.{up, dn}
 use Rattle.laws.specs.Lists.{listOf}
 use Rattle.laws.specs.Tables.{both, every}
 use Rattle.laws.proofs.Integers.{diff, abs-sum, abs-parts, lt-parts}
 use Rattle.laws.proofs.Lists.{length-listOf, listOf-at}
 use Rattle.laws.proofs.Tables.{both-left, both-right, rule-at}
 use borrow.Author.Tests.{lt-ltb}
-use Rattle.spec_trellis.specs.Trellis.{bitN, branch, endOf, startScore, scoreOf, freeEnd, Best, Subtracted, none, kept, renewed}
-use Rattle.spec_trellis.proofs.Trellis.{Softs, branch-le}
-use Rattle.spec_trellis.proofs.TrellisProgram.{survivor, startInto, bitsInto, free-best}
+use Rattle.spec_trellis.specs.Trellis.{bitN, branch, endOf, startScore, scoreOf, freeEnd, Best, Subtracted, none, kept, renewed, Softs}
+use Rattle.spec_trellis.specs.Program.{survivor, startInto, bitsInto}
+use Rattle.spec_trellis.proofs.Trellis.{branch-le}
+use Rattle.spec_trellis.proofs.TrellisProgram.{free-best}
 
 -- a path of few steps scores little
 pub score-abs : (xs : List ℤ) (n : ℕ) → Softs xs n → (s : ℕ) (bs : List Bool) → length bs ≤ n → natAbs (scoreOf xs s bs) ≤ 63 + 512 * length bs

@@ -11,9 +11,10 @@ use lib.Signed.{_≤ℤ_}
 use Rattle.laws.specs.Integers.{up, dn}
 use Rattle.laws.specs.Words.{pickN}
 use Rattle.laws.proofs.Integers.{sum, neg-up, neg-dn, abs-sum, abs-parts, parts-le, le-parts, ≤ℤ-trans}
-use Rattle.spec_trellis.specs.Trellis.{bitN, branch, nextState, startScore}
-use Rattle.spec_trellis.proofs.Trellis.{Softs, branch-le, branch-opposite, isOdd, odd-is, next-lt}
-use Rattle.spec_trellis.proofs.TrellisProgram.{acs, takesAt, survivor, predOf, step-ge, way-is, pred-lt}
+use Rattle.spec_trellis.specs.Trellis.{bitN, branch, nextState, startScore, isOdd, Softs}
+use Rattle.spec_trellis.specs.Program.{acs, takesAt, survivor, predOf}
+use Rattle.spec_trellis.proofs.Trellis.{branch-le, branch-opposite, odd-is, next-lt}
+use Rattle.spec_trellis.proofs.TrellisProgram.{step-ge, way-is, pred-lt}
 
 -- from each state a step leads to one whose survivor scores no less
 pub no-fall : (xs : List ℤ) (k s : ℕ) → s < 64 → (u : ℕ) × (u < 64) × (survivor xs k s ≤ℤ survivor xs (suc k) u)

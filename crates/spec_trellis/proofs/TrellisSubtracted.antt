@@ -1,20 +1,20 @@
 -- The total subtracted is one. Less it, every survivor's score stays within 100,000 of 0, so that no metric overflows and no state looks unreachable.
 -- Assumes nothing.
 use mathlib.Core.Path.{_≡_, refl, sym, ap, subst}
-use mathlib.Core.Bool.{Bool}
 use mathlib.Core.List.{List}
-use Prim.Native.Nat.{ℕ, zero, suc, _+_, _-_, _^_, _<_, _≤_}
+use Prim.Native.Nat.{ℕ, zero, suc, _+_, _-_, _<_, _≤_}
 use native.Mathlib.Omega.{arith}
-use lib.IntN.{ℤ, pos, negsuc, natAbs, negℤ, _+ℤ_, _-ℤ_}
-use lib.Signed.{_≤ℤ_, _<ℤ_}
+use lib.IntN.{ℤ, pos, negsuc, natAbs, _-ℤ_}
+use lib.Signed.{_≤ℤ_}
 use mir.Syntax.{w32}
-use mir.Val.{SFits}
 use Rattle.laws.specs.Integers.{up, dn}
 use Rattle.laws.proofs.Integers.{diff, abs-parts, abs-sum, abs-fits, parts-le, le-parts, parts-lt, lt-parts}
-use Rattle.spec_trellis.specs.Trellis.{bitN, branch, startScore, endOf, scoreOf, BestInto, Top, Subtracted, none, kept, renewed}
-use Rattle.spec_trellis.proofs.Trellis.{Softs, branch-le, end-lt}
+use Rattle.spec_trellis.specs.Trellis.{bitN, branch, startScore, endOf, scoreOf, Top, Subtracted, none, kept, renewed, Softs}
+use Rattle.spec_trellis.specs.Program.{survivor, startInto, bitsInto}
+use Rattle.spec_trellis.specs.Theorems.{NoOverflow, NoCandidateOverflow, unreachable, AllReachable}
+use Rattle.spec_trellis.proofs.Trellis.{branch-le, end-lt}
 use Rattle.spec_trellis.proofs.TrellisOrder.{top-unique}
-use Rattle.spec_trellis.proofs.TrellisProgram.{survivor, startInto, bitsInto, into-start, into-length, into-score, into-best, at-most, best-score}
+use Rattle.spec_trellis.proofs.TrellisProgram.{into-start, into-length, into-score, into-best, at-most, best-score}
 use Rattle.spec_trellis.proofs.TrellisSpread.{spread, no-fall}
 
 pub subtracted-unique : {xs : List ℤ} {n : ℕ} {d e : ℤ} → Subtracted xs n d → Subtracted xs n e → d ≡ e
@@ -90,40 +90,27 @@ module _ {xs : List ℤ} {n : ℕ} {d : ℤ} (q : Softs xs n) (f : Subtracted xs
 
 -- ---- over paths
 
--- below this the Rust takes a state for unreachable: i32::MIN / 2 + 1000
-abbrev pub unreachable : ℤ
-unreachable = negℤ (pos (2 ^ 30 - 1000))
-
--- state e after n steps: a path leads there, and the metric of the best one fits an i32 and lies above the bound
-pub record Reached (xs : List ℤ) (n : ℕ) (d : ℤ) (e : ℕ) : Type 0 where
-  pub start : ℕ
-  pub path : List Bool
-  pub best : BestInto xs n e start path
-  pub within : natAbs (scoreOf xs start path -ℤ d) ≤ 100000
-  pub fits : SFits w32 (scoreOf xs start path -ℤ d)
-  pub above : unreachable <ℤ (scoreOf xs start path -ℤ d)
-
 -- no metric overflows: whatever path is the best into a state, its score less the total subtracted is within 100,000
-pub metric-within : {xs : List ℤ} {n : ℕ} {d : ℤ} {e s : ℕ} {bs : List Bool} → Softs xs n → Subtracted xs n d → e < 64 → BestInto xs n e s bs → natAbs (scoreOf xs s bs -ℤ d) ≤ 100000
-metric-within {xs} {n} {d} {e} {s} {bs} q f h b =
+pub metric-within : NoOverflow
+metric-within xs n d e s bs q f h b =
     subst (λ (z : ℤ). natAbs (z -ℤ d) ≤ 100000) (sym (best-score h b)) (running-within q f e h)
 
 -- nor does a candidate, the metric of a best path with one step more
-pub candidate-within : {xs : List ℤ} {n : ℕ} {d : ℤ} {e s : ℕ} {bs : List Bool} (b : Bool) → Softs xs (suc n) → Subtracted xs n d → e < 64 → BestInto xs n e s bs → natAbs ((scoreOf xs s bs -ℤ d) +ℤ branch xs n e (bitN b)) ≤ 100512
-candidate-within {xs} {n} {d} {e} {s} {bs} b q f h g =
+pub candidate-within : NoCandidateOverflow
+candidate-within xs n d e s bs b q f h g =
     omega (
       arith,
       abs-sum (scoreOf xs s bs -ℤ d) (branch xs n e (bitN b)),
-      metric-within {s = s} {bs = bs} (λ i l. q i (omega arith)) f h g,
+      metric-within xs n d e s bs (λ i l. q i (omega arith)) f h g,
       branch-le xs (suc n) q n e (bitN b) (omega arith),
     )
 
 -- all 64 states are reachable at once, and stay so: the Rust's test for unreachable states never fires
-pub all-reached : {xs : List ℤ} {n : ℕ} {d : ℤ} → Softs xs n → Subtracted xs n d → (e : ℕ) → e < 64 → Reached xs n d e
-all-reached {xs} {n} {d} q f e h =
+pub all-reached : AllReachable
+all-reached xs n d q f e h =
     let b = into-best xs n e h in
     let z : ℤ = scoreOf xs (startInto xs n e) (bitsInto xs n e) -ℤ d in
-    let w : natAbs z ≤ 100000 = metric-within q f h b in
+    let w : natAbs z ≤ 100000 = metric-within xs n d e (startInto xs n e) (bitsInto xs n e) q f h b in
     record {
       start = startInto xs n e;
       path = bitsInto xs n e;

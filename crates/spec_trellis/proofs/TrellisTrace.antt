@@ -10,19 +10,11 @@ use lib.Seq.{drop-cons, lt-length-set, getD-set-same, drop-set-lt, drop-length}
 use lib.IntN.{ℤ}
 use Rattle.laws.specs.Words.{pickN, wordOf}
 use Rattle.laws.proofs.Words.{word-bit}
-use Rattle.spec_trellis.specs.Trellis.{bitN, endOf, BestInto}
-use Rattle.spec_trellis.proofs.Trellis.{isOdd, odd-is}
-use Rattle.spec_trellis.proofs.TrellisOrder.{SamePath, into-unique}
-use Rattle.spec_trellis.proofs.TrellisProgram.{takesAt, predOf, pred-lt, startInto, bitsInto, into-best, into-end}
-
--- the predecessor of t at step k, as the words have it
-unfoldable pub cameFrom : List ℕ → ℕ → ℕ → ℕ
-cameFrom words k t = t / 2 + 32 * (getD words k 0 / 2 ^ t % 2)
-
--- the bits of the path into t after n steps, the oldest first
-unfoldable pub traced : List ℕ → ℕ → ℕ → List ℕ
-traced words zero t = []
-traced words (suc k) t = traced words k (cameFrom words k t) ++ (t % 2 ∷ [])
+use Rattle.spec_trellis.specs.Trellis.{bitN, endOf, BestInto, SamePath, isOdd}
+use Rattle.spec_trellis.specs.Program.{takesAt, predOf, startInto, bitsInto, cameFrom, traced}
+use Rattle.spec_trellis.proofs.Trellis.{odd-is}
+use Rattle.spec_trellis.proofs.TrellisOrder.{into-unique}
+use Rattle.spec_trellis.proofs.TrellisProgram.{pred-lt, into-best, into-end}
 
 pub traced-next : (words : List ℕ) (k t : ℕ) → traced words (suc k) t ≡ traced words k (cameFrom words k t) ++ (t % 2 ∷ [])
 unfolding traced

@@ -1,13 +1,13 @@
 -- Document 01, "viterbi.rs": the trellis of the mother code, its paths and their scores, and which of two paths wins.
 use mathlib.Core.Path.{_≡_}
-use mathlib.Core.Bool.{Bool}
+use mathlib.Core.Bool.{Bool, true, false}
 use mathlib.Core.List.{List, [], _∷_}
 use mathlib.Core.Logic.{_⊎_}
-use Prim.Native.Nat.{ℕ, zero, suc, _+_, _*_, _%_, _<_}
+use Prim.Native.Nat.{ℕ, zero, suc, _+_, _*_, _%_, _<_, _≤_}
 use lib.Bits.{bitAnd}
 use lib.Count.{ones}
 use lib.ListN.{length, getD}
-use lib.IntN.{ℤ, pos, negsuc, negℤ, _+ℤ_, _-ℤ_}
+use lib.IntN.{ℤ, pos, negsuc, negℤ, natAbs, _+ℤ_, _-ℤ_}
 use lib.Signed.{_≤ℤ_, _<ℤ_}
 use Rattle.laws.specs.Integers.{at}
 use Rattle.laws.specs.Words.{pickN}
@@ -18,6 +18,11 @@ masks = 0o155 ∷ 0o117 ∷ 0o123 ∷ 0o155 ∷ []
 
 abbrev pub bitN : Bool → ℕ
 bitN b = pickN b 1 0
+
+-- a number's bit, as a path has it
+abbrev pub isOdd : ℕ → Bool
+isOdd zero = false
+isOdd (suc n) = true
 
 -- from state s with input b: the register, 7 bits, and the next state, its low six
 abbrev pub register : ℕ → ℕ → ℕ
@@ -42,6 +47,10 @@ signBy (suc n) v = v
 -- soft value g of step k
 abbrev pub soft : List ℤ → ℕ → ℕ → ℤ
 soft xs k g = at xs (4 * k + g)
+
+-- each soft value of the first n steps is at most 128 in size: an i8
+abbrev pub Softs : List ℤ → ℕ → Type 0
+Softs xs n = (i : ℕ) → i < 4 * n → natAbs (at xs i) ≤ 128
 
 -- what step k adds to the score of a path that leaves state s with input b
 unfoldable pub branch : List ℤ → ℕ → ℕ → ℕ → ℤ
@@ -75,6 +84,11 @@ Wins xs s bs s' bs' =
     (scoreOf xs s' bs' <ℤ scoreOf xs s bs)
     ⊎ ((scoreOf xs s' bs' ≡ scoreOf xs s bs) × ((endOf s bs < endOf s' bs') ⊎ ((endOf s bs ≡ endOf s' bs') × FirstLower s bs s' bs')))
 
+-- one path: the same start and the same bits
+pub record SamePath (s : ℕ) (bs : List Bool) (s' : ℕ) (bs' : List Bool) : Type 0 where
+  pub start-is : s ≡ s'
+  pub bits-are : bs ≡ bs'
+
 -- the ends that a decoder permits: state 0, or every one
 pub data Ends : Type 0 where
   zeroEnd freeEnd : Ends
@@ -89,6 +103,10 @@ pub record Best (xs : List ℤ) (n : ℕ) (ends : Ends) (start : ℕ) (path : Li
   pub long : length path ≡ n
   pub permitted : Permits ends (endOf start path)
   pub wins : (s : ℕ) → s < 64 → (bs : List Bool) → length bs ≡ n → Permits ends (endOf s bs) → Wins xs start path s bs
+
+-- no permitted path of n steps scores above z
+unfoldable pub NoneAbove : List ℤ → ℕ → Ends → ℤ → Type 0
+NoneAbove xs n ends z = (s : ℕ) → s < 64 → (bs : List Bool) → length bs ≡ n → Permits ends (endOf s bs) → scoreOf xs s bs ≤ℤ z
 
 -- a path of n steps into state e that every other path into e loses to
 pub record BestInto (xs : List ℤ) (n e start : ℕ) (path : List Bool) : Type 0 where

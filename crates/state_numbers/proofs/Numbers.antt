@@ -7,43 +7,28 @@ use Prim.Native.Nat.{ℕ, _<_, _≤_}
 use native.Mathlib.Omega.{arith}
 use borrow.Author.Tests.{lt-ltb, le-ltb, ltb-false}
 use lib.Dec.{eqb, ltb}
-use lib.ListN.{length, getD, set, drop}
-use Rattle.refusal.specs.Outcome.{check, unlessRefused}
+use lib.ListN.{length, getD, drop}
+use lib.Seq.{sets}
+use Rattle.laws.proofs.Lists.{sets-front}
+use Rattle.refusal.specs.Outcome.{anyOf}
 use Rattle.protection.specs.declared.Description.{Description}
 use Rattle.msc_state.specs.declared.State.{State}
-use Rattle.msc_state.specs.States.{anyOf}
-use Rattle.msc_state.proofs.Refusals.{none-of, off-at, last-flag, clean, zeroed, later, held-not}
-use Rattle.places.specs.Places.{describes, short}
+use Rattle.refusal.proofs.Checks.{none-of, off-at, last-flag, flagged, clean, zeroed, later, held-not}
+use Rattle.places.specs.Places.{describes}
 use Rattle.state_numbers.specs.Code.{InRange}
-use Rattle.state_numbers.specs.Numbers.{flagOf, numbersOf, stateIn, overs, outOfRange, statePut, stateRefusal}
+use Rattle.state_numbers.specs.Numbers.{flagOf, numbersOf, stateIn, overs, outOfRange, statePut, stateChecks, stateRefusal}
 
--- eleven numbers in the first eleven places
-eleven-set : (a b c d e f g h i j k : ℕ) (xs : List ℕ) → 11 ≤ length xs → set (set (set (set (set (set (set (set (set (set (set xs 0 a) 1 b) 2 c) 3 d) 4 e) 5 f) 6 g) 7 h) 8 i) 9 j) 10 k ≡ (a ∷ b ∷ c ∷ d ∷ e ∷ f ∷ g ∷ h ∷ i ∷ j ∷ k ∷ []) ++ drop 11 xs
-eleven-set a b c d e f g h i j k (x0 ∷ x1 ∷ x2 ∷ x3 ∷ x4 ∷ x5 ∷ x6 ∷ x7 ∷ x8 ∷ x9 ∷ x10 ∷ xs) l = refl
-eleven-set a b c d e f g h i j k [] l = absurd (omega arith)
-eleven-set a b c d e f g h i j k (x0 ∷ []) l = absurd (omega arith)
-eleven-set a b c d e f g h i j k (x0 ∷ x1 ∷ []) l = absurd (omega arith)
-eleven-set a b c d e f g h i j k (x0 ∷ x1 ∷ x2 ∷ []) l = absurd (omega arith)
-eleven-set a b c d e f g h i j k (x0 ∷ x1 ∷ x2 ∷ x3 ∷ []) l = absurd (omega arith)
-eleven-set a b c d e f g h i j k (x0 ∷ x1 ∷ x2 ∷ x3 ∷ x4 ∷ []) l = absurd (omega arith)
-eleven-set a b c d e f g h i j k (x0 ∷ x1 ∷ x2 ∷ x3 ∷ x4 ∷ x5 ∷ []) l = absurd (omega arith)
-eleven-set a b c d e f g h i j k (x0 ∷ x1 ∷ x2 ∷ x3 ∷ x4 ∷ x5 ∷ x6 ∷ []) l = absurd (omega arith)
-eleven-set a b c d e f g h i j k (x0 ∷ x1 ∷ x2 ∷ x3 ∷ x4 ∷ x5 ∷ x6 ∷ x7 ∷ []) l = absurd (omega arith)
-eleven-set a b c d e f g h i j k (x0 ∷ x1 ∷ x2 ∷ x3 ∷ x4 ∷ x5 ∷ x6 ∷ x7 ∷ x8 ∷ []) l = absurd (omega arith)
-eleven-set a b c d e f g h i j k (x0 ∷ x1 ∷ x2 ∷ x3 ∷ x4 ∷ x5 ∷ x6 ∷ x7 ∷ x8 ∷ x9 ∷ []) l = absurd (omega arith)
+-- a state's numbers but for its flag, and the flag; so eleven writes put them before the rest
+abbrev pub numbersWith : State → ℕ → List ℕ
+numbersWith s flag =
+    s .symbols ∷ s .«cif_in_frame» ∷ s .channel .«ring_index» ∷ s .channel .«cif_count» ∷ s .channel .«frames_decoded» ∷ s .channel .description .«start_addr» ∷ s .channel .description .«sub_size»
+    ∷ s .channel .description .bitrate ∷ s .channel .description .«protection_level» ∷ s .channel .description .«eep_option» ∷ flag ∷ []
 
-pub eleven-put : (s : State) (k : ℕ) → k ≡ flagOf (s .channel .description .«is_eep») → (xs : List ℕ) → 11 ≤ length xs → set (set (set (set (set (set (set (set (set (set (set xs 0 (s .symbols)) 1 (s .«cif_in_frame»)) 2 (s .channel .«ring_index»)) 3 (s .channel .«cif_count»)) 4 (s .channel .«frames_decoded»)) 5 (s .channel .description .«start_addr»)) 6 (s .channel .description .«sub_size»)) 7 (s .channel .description .bitrate)) 8 (s .channel .description .«protection_level»)) 9 (s .channel .description .«eep_option»)) 10 k ≡ statePut s xs
+pub eleven-put : (s : State) (flag : ℕ) → flag ≡ flagOf (s .channel .description .«is_eep») → (xs : List ℕ) → 11 ≤ length xs → sets xs 0 (numbersWith s flag) ≡ statePut s xs
 unfolding numbersOf
-eleven-put s k e xs l = eleven-set (s .symbols) (s .«cif_in_frame») (s .channel .«ring_index») (s .channel .«cif_count») (s .channel .«frames_decoded») (s .channel .description .«start_addr») (s .channel .description .«sub_size») (s .channel .description .bitrate) (s .channel .description .«protection_level») (s .channel .description .«eep_option») k xs l ∙ ap (λ (j : ℕ). (s .symbols ∷ s .«cif_in_frame» ∷ s .channel .«ring_index» ∷ s .channel .«cif_count» ∷ s .channel .«frames_decoded» ∷ s .channel .description .«start_addr» ∷ s .channel .description .«sub_size» ∷ s .channel .description .bitrate ∷ s .channel .description .«protection_level» ∷ s .channel .description .«eep_option» ∷ j ∷ []) ++ drop 11 xs) e
+eleven-put s flag e xs l = sets-front (numbersWith s flag) xs l ∙ ap (λ (k : ℕ). numbersWith s k ++ drop 11 xs) e
 
--- the range test: flags tested from the last to the first, and what holds where none does
-flagged : (b : Bool) (bs : List Bool) {r rest : Bool} → r ≡ cond b true rest → rest ≡ anyOf bs → r ≡ anyOf (b ∷ bs)
-flagged b bs e f = e ∙ ap (cond b true) f ∙ go b
-  where
-    go : (c : Bool) → cond c true (anyOf bs) ≡ anyOf (c ∷ bs)
-    go true = refl
-    go false = refl
-
+-- the range test: nine flags, tested from the last to the first, and what holds where none does
 pub nine-flags :
     (a b c d f g h i j : Bool) {q r s t u v w x : Bool} → x ≡ cond i true j → w ≡ cond h true x → v ≡ cond g true w → u ≡ cond f true v → t ≡ cond d true u → s ≡ cond c true t → r ≡ cond b true s → q ≡ cond a true r
     → q ≡ anyOf (a ∷ b ∷ c ∷ d ∷ f ∷ g ∷ h ∷ i ∷ j ∷ [])
@@ -91,21 +76,8 @@ pub record Readable (state : List ℕ) : Type 0 where
 pub readable : (state : List ℕ) → stateRefusal state ≡ 0 → Readable state
 unfolding stateRefusal
 readable state e =
-    let n = clean (short 11 (length state) ∷ check 10 (outOfRange state) ∷ []) e in
+    let n = clean (stateChecks state) e in
     record { long = ltb-false (length state) 11 (held-not 7 (ltb (length state) 11) (zeroed n)); ranged = in-range state (held-not 9 (outOfRange state) (zeroed (later n))) }
-
--- what is written: nothing under eleven places, and all of it from eleven on
-pub no-room : (s : State) (xs : List ℕ) → length xs < 11 → xs ≡ unlessRefused (short 11 (length xs)) (statePut s xs) xs
-no-room s xs h = rw (lt-ltb _ _ h) refl
-
-pub has-room : (s : State) (xs : List ℕ) → 11 ≤ length xs → {ys : List ℕ} → ys ≡ statePut s xs → ys ≡ unlessRefused (short 11 (length xs)) (statePut s xs) xs
-has-room s xs h e = rw (le-ltb _ _ h) e
-
-pub eight : (n : ℕ) → n < 11 → 8 ≡ short 11 n
-eight n h = rw (lt-ltb _ _ h) refl
-
-pub none : (n : ℕ) → 11 ≤ n → 0 ≡ short 11 n
-none n h = rw (le-ltb _ _ h) refl
 
 -- a state that was written and is read again is the same
 described-back : (d : Description) → describes (d .«start_addr») (d .«sub_size») (d .bitrate) (d .«protection_level») (d .«eep_option») (flagOf (d .«is_eep»)) ≡ d

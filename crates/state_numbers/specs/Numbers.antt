@@ -4,9 +4,8 @@ use mathlib.Core.List.{List, [], _∷_, _++_}
 use Prim.Native.Nat.{ℕ}
 use lib.Dec.{ltb}
 use lib.ListN.{length, getD, drop}
-use Rattle.refusal.specs.Outcome.{Outcome, gives, refuses, check, firstOf}
+use Rattle.refusal.specs.Outcome.{Outcome, gives, refuses, check, firstOf, anyOf}
 use Rattle.msc_state.specs.declared.State.{State}
-use Rattle.msc_state.specs.States.{anyOf}
 use Rattle.places.specs.Places.{describes, short}
 use Rattle.state_numbers.specs.declared.Reading.{Reading}
 use Rattle.state_numbers.specs.declared.Reading.the-variants.{Read, Refused}
@@ -48,8 +47,11 @@ abbrev pub statePut : State → List ℕ → List ℕ
 statePut s xs = numbersOf s ++ drop 11 xs
 
 -- fewer than eleven places, then a number that its field does not hold: 8, 10
+abbrev pub stateChecks : List ℕ → List ℕ
+stateChecks xs = short 11 (length xs) ∷ check 10 (outOfRange xs) ∷ []
+
 unfoldable pub stateRefusal : List ℕ → ℕ
-stateRefusal xs = firstOf (short 11 (length xs) ∷ check 10 (outOfRange xs) ∷ [])
+stateRefusal xs = firstOf (stateChecks xs)
 
 -- what a reading says
 abbrev pub readAs : Reading → Outcome State

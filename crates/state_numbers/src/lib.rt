@@ -1,12 +1,12 @@
-// A sub-channel's state as eleven numbers in a lent array, written and read back.
+// A sub-channel's state as eleven numbers in the caller's array, written and read back.
 ghost use mathlib.Core.Path.{_≡_};
 ghost use mathlib.Core.Bool.{true, cond};
 ghost use Prim.Native.Nat.{_≤_};
 ghost use lib.ListN.{length};
-ghost use Rattle.refusal.specs.Outcome.{outcome, unlessRefused};
-ghost use Rattle.places.specs.Places.{short};
+ghost use Rattle.refusal.specs.Outcome.{outcome};
+ghost use Rattle.places.specs.Places.{short, Wrote};
 ghost use Rattle.state_numbers.specs.Code.{InRange};
-ghost use Rattle.state_numbers.specs.Numbers.{flagOf, stateIn, outOfRange, statePut, stateRefusal, readAs};
+ghost use Rattle.state_numbers.specs.Numbers.{flagOf, numbersOf, stateIn, outOfRange, statePut, stateRefusal, readAs};
 use msc_state::Channel;
 use msc_state::State;
 use protection::Description;
@@ -46,8 +46,7 @@ fn put(s: State, state: &mut [u64])
 
 // The state's eleven numbers before the rest as it was; or 8, where there are fewer places.
 pub fn write(s: State, state: &mut [u64]) -> u8
-    ensures { λ r. ⌜ r ≡ short 11 (length (now (state .entry))) ⌝ }
-    ensures { λ r. ⌜ now (state .exit) ≡ unlessRefused (short 11 (length (now (state .entry)))) (statePut s (now (state .entry))) (now (state .entry)) ⌝ }
+    ensures { λ r. ⌜ Wrote (short 11 (length (now (state .entry)))) 11 (numbersOf s) (now (state .entry)) (now (state .exit)) r ⌝ }
 {
     if state.len() < 11 {
         return 8;

@@ -3,15 +3,15 @@
 use mathlib.Core.Path.{_≡_, sym, ap, _∙_}
 use mathlib.Core.List.{List, _∷_}
 use Prim.Native.Nat.{ℕ, zero, suc}
-use native.Mathlib.Omega.{arith}
 use lib.ListN.{drop}
 use lib.IntN.{ℤ}
+use Rattle.refusal.specs.Outcome.{unlessRefused}
 use Rattle.protection.specs.declared.Description.{Description}
 use Rattle.msc_handler.specs.declared.Fed.{Fed}
 use Rattle.msc_handler.specs.Promises.{Buffers}
 use Rattle.msc_handler.proofs.Feeding.{fed-unique}
 use Rattle.state_numbers.specs.Numbers.{statePut}
-use Rattle.state_places.specs.Msc.{Readied, FedPlaces, fedPlaces, bytesIn, percentPut, FeedWritten, FeedCall}
+use Rattle.state_places.specs.Msc.{Readied, FedPlaces, fedPlaces, bytesIn, percentPut, numberFed, FeedUntouched, FeedWritten, FeedCall}
 
 -- set-up and reset
 pub record SameReady (k : ℕ) (ring : List ℤ) (state : List ℕ) (k' : ℕ) (ring' : List ℤ) (state' : List ℕ) : Type 0 where
@@ -36,15 +36,13 @@ module _ {soft : List ℤ} {b : Buffers} {f : FedPlaces} {c c' : Buffers} {g g' 
       ((x .percents-are ∙ ap (λ (r : Fed). percentPut (r .answer) (f .percents)) e ∙ sym (y .percents-are)) i)
 
   pub feed-unique : {k k' : ℕ} → FeedCall soft b f k c g → FeedCall soft b f k' c' g' → SameFeed k c g k' c' g'
-  feed-unique {k} {k'} x y = go k k' (x .answer ∙ sym (y .answer)) x y
+  feed-unique {k} {k'} x y = go (numberFed soft b f) (x .left) (y .left)
     where
-      go : (k k' : ℕ) → k ≡ k' → FeedCall soft b f k c g → FeedCall soft b f k' c' g' → SameFeed k c g k' c' g'
-      go zero k' e x y =
-          let p = x .finished (omega arith) in
-          let q = y .finished (omega arith) in
+      number-one : k ≡ k'
+      number-one = x .answer ∙ sym (y .answer)
+
+      go : (n : ℕ) → unlessRefused n (FeedWritten soft b f c g) (FeedUntouched b f c g) → unlessRefused n (FeedWritten soft b f c' g') (FeedUntouched b f c' g') → SameFeed k c g k' c' g'
+      go zero p q =
           let same = fed-unique (p .promise) (q .promise) in
-          record { number-is = e; lent-is = same .lent-one; places-are = places-one p q (same .result-one) }
-      go (suc k) k' e x y =
-          let p = x .refused (omega arith) in
-          let q = y .refused (omega arith) in
-          record { number-is = e; lent-is = p .lent-is ∙ sym (q .lent-is); places-are = p .places-are ∙ sym (q .places-are) }
+          record { number-is = number-one; lent-is = same .lent-one; places-are = places-one p q (same .result-one) }
+      go (suc n) p q = record { number-is = number-one; lent-is = p .lent-is ∙ sym (q .lent-is); places-are = p .places-are ∙ sym (q .places-are) }

@@ -3,30 +3,35 @@ use mathlib.Core.Path.{_≡_}
 use mathlib.Core.List.{List, [], _∷_}
 use Prim.Native.Nat.{ℕ, _≤_}
 use lib.ListN.{length, drop}
-use Rattle.refusal.specs.Outcome.{check, orElse, firstOf}
+use Rattle.refusal.specs.Outcome.{unlessRefused, numberOf, check, orElse, firstOf}
 use Rattle.protection.specs.declared.Description.{Description}
-use Rattle.protection.specs.declared.Judged.{Judged}
-use Rattle.protection.specs.declared.Judged.the-variants.{«Accepted» as judged-accepted, «Refused» as judged-refused}
 use Rattle.protection.specs.Refusals.{refusalOf}
-use Rattle.msc_handler.specs.declared.Answer.{Answer}
-use Rattle.msc_handler.specs.declared.Answer.the-variants.{Waiting, Frame, Refused}
+use Rattle.msc_handler.specs.declared.Fed.{Fed}
+use Rattle.msc_handler.specs.Promises.{saidOf}
 use Rattle.msc_state.specs.declared.State.{State}
+use Rattle.msc_state.specs.States.{badState}
 use Rattle.places.specs.Places.{short}
-use Rattle.state_numbers.specs.Numbers.{outOfRange, statePut}
-use Rattle.state_places.specs.Msc.{FedPlaces, fedPlaces}
-
--- the tests before the room's, of the state and of all places of a symbol's answer
-unfoldable pub placesRefusal : List ℕ → ℕ → ℕ → ℕ
-placesRefusal state lengths percents = firstOf (short 11 (length state) ∷ short 1 lengths ∷ short 1 percents ∷ check 10 (outOfRange state) ∷ [])
+use Rattle.state_numbers.specs.Numbers.{stateIn, statePut, stateRefusal}
+use Rattle.state_places.specs.Msc.{FedPlaces, fedPlaces, bytesIn, percentPut}
 
 -- a set-up with no places for the state
 abbrev pub noState : Description → ℕ
 noState d = orElse (refusalOf d) 8
 
--- what was made, told: its state in its places, or its number
-unfoldable pub MadeTold : Judged → State → List ℕ → List ℕ → ℕ → Type 0
-MadeTold judged-accepted s before after number = (number ≡ 0) × (after ≡ statePut s before)
-MadeTold (judged-refused r) s before after number = (number ≡ r .number) × (after ≡ before)
+-- a place of a symbol's answer is not there
+abbrev pub noPlaces : State → ℕ
+noPlaces s = orElse (check 10 (badState s)) 8
+
+-- of a state with so many places for the length and the percentage
+abbrev pub fewPlaces : ℕ → ℕ → ℕ
+fewPlaces lengths percents = firstOf (short 1 lengths ∷ short 1 percents ∷ [])
+
+unfoldable pub besideOf : State → ℕ → ℕ → ℕ
+besideOf s lengths percents = unlessRefused (fewPlaces lengths percents) 0 (noPlaces s)
+
+-- what is refused before the buffers are looked at
+unfoldable pub placesRefusal : List ℕ → ℕ → ℕ → ℕ
+placesRefusal state lengths percents = orElse (stateRefusal state) (besideOf (stateIn state) lengths percents)
 
 -- places for a symbol's answer
 pub record EnoughPlaces (f : FedPlaces) : Type 0 where
@@ -34,8 +39,11 @@ pub record EnoughPlaces (f : FedPlaces) : Type 0 where
   pub lengths-long : 1 ≤ length (f .lengths)
   pub percents-long : 1 ≤ length (f .percents)
 
--- a symbol's answer, told
-unfoldable pub FedTold : Answer → State → FedPlaces → FedPlaces → ℕ → Type 0
-FedTold Waiting s f f' number = (number ≡ 0) × (f' ≡ fedPlaces (statePut s (f .state)) (0 ∷ drop 1 (f .lengths)) (f .percents))
-FedTold (Frame n p) s f f' number = (number ≡ 0) × (f' ≡ fedPlaces (statePut s (f .state)) (n ∷ drop 1 (f .lengths)) (p ∷ drop 1 (f .percents)))
-FedTold (Refused n) s f f' number = (number ≡ n) × (f' ≡ f)
+-- an answer in its places
+abbrev pub fedPut : Fed → FedPlaces → FedPlaces
+fedPut r f = fedPlaces (statePut (r .state) (f .state)) (bytesIn (r .answer) ∷ drop 1 (f .lengths)) (percentPut (r .answer) (f .percents))
+
+-- by the answer's number: refused with all as it was, or told
+pub record FedTold (r : Fed) (f f' : FedPlaces) (number : ℕ) : Type 0 where
+  pub answer : number ≡ numberOf (saidOf (r .answer))
+  pub places : f' ≡ unlessRefused (numberOf (saidOf (r .answer))) (fedPut r f) f

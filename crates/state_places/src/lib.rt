@@ -1,17 +1,19 @@
-// MSC handling over plain numbers: the state as eleven of them in a lent array, a symbol's answer in places of its own.
+// MSC handling over plain numbers: the state as eleven of them in the caller's array, a symbol's answer in places of its own.
 ghost use mathlib.Core.Path.{_≡_};
 ghost use Prim.Native.Nat.{_≤_};
 ghost use lib.ListN.{length};
-ghost use Rattle.refusal.specs.Outcome.{outcome};
-ghost use Rattle.msc_handler.specs.Promises.{buffers};
-ghost use Rattle.state_numbers.specs.Numbers.{stateIn, readAs};
-ghost use Rattle.state_places.specs.Code.{placesRefusal, noState, MadeTold, EnoughPlaces, FedTold};
-ghost use Rattle.state_places.specs.Msc.{SetUpCall, ResetCall, fedPlaces, FeedCall};
+ghost use Rattle.refusal.specs.Outcome.{outcome, numberOf};
+ghost use Rattle.protection.specs.Answers.{judgedAs};
+ghost use Rattle.msc_handler.specs.Promises.{saidOf, buffers};
+ghost use Rattle.places.specs.Places.{describes, Wrote};
+ghost use Rattle.state_numbers.specs.Numbers.{numbersOf, stateIn, readAs};
+ghost use Rattle.state_places.specs.Code.{noState, noPlaces, besideOf, placesRefusal, EnoughPlaces, FedTold};
+ghost use Rattle.state_places.specs.Msc.{SetUpCall, ResetCall, fedPlaces, bytesIn, percentPut, FeedCall};
 use msc_handler::Answer;
 use msc_handler::Fed;
 use msc_set_up::SetUp;
+use msc_state::State;
 use protection::Description;
-use protection::Judged;
 use refusal::Refusal;
 use state_numbers::Reading;
 
@@ -26,27 +28,45 @@ fn no_state(d: Description) -> u8
 // What set-up or reset has made: its state in its places, or the refusal's number.
 fn put_made(made: SetUp, state: &mut [u64]) -> u8
     requires { ⌜ 11 ≤ length (now state) ⌝ }
-    ensures { λ r. ⌜ MadeTold (made .answer) (made .state) (now (state .entry)) (now (state .exit)) r ⌝ }
+    ensures { λ r. ⌜ Wrote (numberOf (judgedAs (made .answer))) 11 (numbersOf (made .state)) (now (state .entry)) (now (state .exit)) r ⌝ }
 {
     let answer = made.answer;
     let fresh = made.state;
-    match answer {
-        Judged::Refused(r) => r.number,
-        Judged::Accepted => state_numbers::write(fresh, state),
+    let number = places::number(answer);
+    if number != 0 {
+        return number;
     }
+    state_numbers::write(fresh, state)
 }
 
 // Sets a description up: 1 to 7, then 8.
-pub fn set_up(d: Description, ring: &mut [i8], state: &mut [u64]) -> u8
-    ensures { λ r. ⌜ SetUpCall d (now (ring .entry)) (now (state .entry)) r (now (ring .exit)) (now (state .exit)) ⌝ }
+pub fn set_up(
+    start_addr: u16,
+    sub_size: u16,
+    bitrate: u16,
+    protection_level: u8,
+    eep_option: u8,
+    is_eep: u32,
+    ring: &mut [i8],
+    state: &mut [u64],
+) -> u8
+    ensures { λ r. ⌜ SetUpCall (describes «start_addr» «sub_size» bitrate «protection_level» «eep_option» «is_eep») (now (ring .entry)) (now (state .entry)) r (now (ring .exit)) (now (state .exit)) ⌝ }
 {
+    let d = places::described(
+        start_addr,
+        sub_size,
+        bitrate,
+        protection_level,
+        eep_option,
+        is_eep,
+    );
     if state.len() < 11 {
         return no_state(d);
     }
     put_made(msc_set_up::set_up(d, ring), state)
 }
 
-// The state of a new set-up with the same description: 8, 10, 8.
+// The state of a new set-up with the same description: 8 for too few numbers of a state, 10, 8.
 pub fn reset(state: &mut [u64], ring: &mut [i8]) -> u8
     ensures { λ r. ⌜ ResetCall (now (state .entry)) (now (ring .entry)) r (now (ring .exit)) (now (state .exit)) ⌝ }
 {
@@ -57,43 +77,95 @@ pub fn reset(state: &mut [u64], ring: &mut [i8]) -> u8
     }
 }
 
-// The state, unless there is no place for the length or the percentage: 8, 10.
+// A place of the answer is not there: 8, after 10 for a bad state.
+fn no_places(s: State) -> u8
+    ensures { λ r. ⌜ r ≡ noPlaces s ⌝ }
+{
+    if msc_state::is_bad(s) { 10 } else { 8 }
+}
+
+// A state, unless a place of the answer is not there.
+fn beside(s: State, lengths: usize, percents: usize) -> Reading
+    ensures { λ r. ⌜ readAs r ≡ outcome (besideOf s lengths percents) s ⌝ }
+{
+    if lengths < 1 {
+        return Reading::Refused(Refusal {
+            number: no_places(s),
+        });
+    }
+    if percents < 1 {
+        return Reading::Refused(Refusal {
+            number: no_places(s),
+        });
+    }
+    Reading::Read(s)
+}
+
+// The state, or what is refused before the buffers are looked at: 8, 10, 8.
 fn read_beside(state: &[u64], lengths: usize, percents: usize) -> Reading
     ensures { λ r. ⌜ readAs r ≡ outcome (placesRefusal (now (state .entry)) lengths percents) (stateIn (now (state .entry))) ⌝ }
 {
-    if lengths < 1 {
-        return Reading::Refused(Refusal { number: 8 });
+    let reading = state_numbers::read(state);
+    match reading {
+        Reading::Refused(r) => Reading::Refused(r),
+        Reading::Read(s) => beside(s, lengths, percents),
     }
-    if percents < 1 {
-        return Reading::Refused(Refusal { number: 8 });
+}
+
+// The number of a refusal, 0 where there is none.
+fn refusal_in(answer: Answer) -> u8
+    ensures { λ r. ⌜ r ≡ numberOf (saidOf answer) ⌝ }
+{
+    match answer {
+        Answer::Refused(n) => n,
+        Answer::Frame(_, _) => 0,
+        Answer::Waiting => 0,
     }
-    state_numbers::read(state)
+}
+
+// A frame's bytes, 0 where none is given.
+fn bytes_in(answer: Answer) -> usize
+    ensures { λ r. ⌜ r ≡ bytesIn answer ⌝ }
+{
+    match answer {
+        Answer::Refused(_) => 0,
+        Answer::Frame(n, _) => n,
+        Answer::Waiting => 0,
+    }
+}
+
+// A frame's percentage into the first place.
+fn put_percent(answer: Answer, percent: &mut [f64])
+    requires { ⌜ 1 ≤ length (now percent) ⌝ }
+    ensures { λ r. ⌜ now (percent .exit) ≡ percentPut answer (now (percent .entry)) ⌝ }
+{
+    match answer {
+        Answer::Frame(_, p) => {
+            percent[0] = p;
+        }
+        Answer::Refused(_) => {}
+        Answer::Waiting => {}
+    }
 }
 
 // What a symbol has come to: the state, the frame's length and its percentage in their places, or the refusal's number.
 fn put_fed(fed: Fed, state: &mut [u64], length: &mut [u64], percent: &mut [f64]) -> u8
     requires { ⌜ EnoughPlaces (fedPlaces (now state) (now length) (now percent)) ⌝ }
-    ensures { λ r. ⌜ FedTold (fed .answer) (fed .state) (fedPlaces (now (state .entry)) (now (length .entry)) (now (percent .entry))) (fedPlaces (now (state .exit)) (now (length .exit)) (now (percent .exit))) r ⌝ }
+    ensures { λ r. ⌜ FedTold fed (fedPlaces (now (state .entry)) (now (length .entry)) (now (percent .entry))) (fedPlaces (now (state .exit)) (now (length .exit)) (now (percent .exit))) r ⌝ }
 {
     let answer = fed.answer;
     let after = fed.state;
-    match answer {
-        Answer::Refused(n) => n,
-        Answer::Waiting => {
-            let told = state_numbers::write(after, state);
-            length[0] = 0;
-            told
-        }
-        Answer::Frame(n, p) => {
-            let told = state_numbers::write(after, state);
-            length[0] = n as u64;
-            percent[0] = p;
-            told
-        }
+    let number = refusal_in(answer);
+    if number != 0 {
+        return number;
     }
+    let told = state_numbers::write(after, state);
+    length[0] = bytes_in(answer) as u64;
+    put_percent(answer, percent);
+    told
 }
 
-// Takes a symbol: 8, 10, 8, 9.
+// Takes a symbol: 8 for too few numbers of a state, 10, 8, 9.
 pub fn feed_symbol(
     state: &mut [u64],
     soft: &[i8],

@@ -7,8 +7,9 @@ use native.Mathlib.Omega.{arith}
 use lib.IntN.{ℤ, natAbs, _+ℤ_}
 use Rattle.laws.proofs.Integers.{abs-sum}
 use Rattle.spec_trellis.specs.Trellis.{outBit, signBy, soft, branch}
-use Rattle.spec_trellis.proofs.Trellis.{Soft, sign-abs, out-lt}
-use Rattle.viterbi.specs.Steps.{branchOf, patternOf, correlationOf}
+use Rattle.spec_trellis.specs.Program.{Soft}
+use Rattle.spec_trellis.proofs.Trellis.{sign-abs, out-lt}
+use Rattle.viterbi.specs.Code.{branchOf, patternOf, correlationOf}
 
 -- a register is its state and its input
 pub register-state : (s b : ℕ) → b < 2 → (2 * s + b) / 2 ≡ s

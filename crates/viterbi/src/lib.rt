@@ -7,14 +7,11 @@ ghost use lib.IntN.{natAbs, _+ℤ_, _-ℤ_};
 ghost use lib.Signed.{ltZ};
 ghost use Rattle.laws.specs.Integers.{at, pickZ};
 ghost use Rattle.laws.specs.Words.{pickN, wordOf};
-ghost use Rattle.spec_trellis.specs.Trellis.{outBit, signBy, startScore, zeroEnd, freeEnd};
-ghost use Rattle.spec_trellis.proofs.Trellis.{Soft};
-ghost use Rattle.spec_trellis.proofs.TrellisProgram.{takes, acs};
-ghost use Rattle.spec_trellis.proofs.TrellisPass.{Greatest, FirstGreatest, Renormalised, Forward};
-ghost use Rattle.spec_trellis.proofs.TrellisTrace.{traced};
+ghost use Rattle.spec_trellis.specs.Trellis.{parity, outBit, signBy, startScore, zeroEnd, freeEnd};
+ghost use Rattle.spec_trellis.specs.Program.{Soft, takes, acs, Greatest, FirstGreatest, Renormalised, Forward, traced};
 ghost use Rattle.branch_outputs.specs.Outputs.{branchOutputs};
-ghost use Rattle.viterbi.specs.Steps.{branchOf, patternOf, correlationOf, Patterns, Correlations, Within, Chosen};
-ghost use Rattle.viterbi.specs.Decoders.{endsOf, answerOf, Accepted, Decoded};
+ghost use Rattle.viterbi.specs.Code.{branchOf, patternOf, correlationOf, Patterns, Correlations, Within, Chosen};
+ghost use Rattle.viterbi.specs.Decoders.{endsOf, decodedAs, Accepted, Decoded};
 
 // What a decode gives beside its bits: the best path's score less all that was subtracted.
 pub struct Score {
@@ -25,6 +22,13 @@ pub struct Score {
 pub enum Decoding {
     Done(Score),
     Refused(Refusal),
+}
+
+// One output of a register: the number of ones of register and mask, modulo two.
+pub fn parity_of(register: u32, mask: u32) -> u32
+    ensures { λ r. ⌜ r ≡ parity register mask ⌝ }
+{
+    u32::count_ones(register & mask) % 2
 }
 
 // Each signed operation once, so that its range is shown in one place.
@@ -135,7 +139,7 @@ fn pattern(outputs: &[[[u8; 4]; 2]; 64], s: usize, b: usize) -> u8
     joined(o0, o1, o2, o3)
 }
 
-// The patterns by register: made once per decode and lent down to the step.
+// The patterns by register: made once per decode and passed down to the step.
 fn patterns_of(outputs: &[[[u8; 4]; 2]; 64]) -> [u8; 128]
     requires { ⌜ now outputs ≡ branchOutputs ⌝ }
     ensures { λ r. ⌜ Patterns r ⌝ }
@@ -350,39 +354,39 @@ fn best_path(soft: &[i8], words: &mut [u64], bits: &mut [u8], free: bool) -> i32
     scores[end]
 }
 
-// The room of two lent slices.
+// The lesser of two lengths.
 fn least(a: usize, b: usize) -> usize
     ensures { λ r. ⌜ r ≡ min a b ⌝ }
 {
     if a < b { a } else { b }
 }
 
-// Both decoders: the refusals in document 01's order, then as many places of the words and the bits as there are steps.
+// Both decoders: the refusals in document 01's order, then as many elements of the words and the bits as there are steps.
 fn decode(soft: &[i8], words: &mut [u64], bits: &mut [u8], free: bool) -> Decoding
-    ensures { λ r. ⌜ Decoded (endsOf free) (now (soft .entry)) (now (words .entry)) (now (bits .entry)) (answerOf r) (now (words .exit)) (now (bits .exit)) ⌝ }
+    ensures { λ r. ⌜ Decoded (endsOf free) (now (soft .entry)) (now (words .entry)) (now (bits .entry)) (decodedAs r) (now (words .exit)) (now (bits .exit)) ⌝ }
 {
     let n = soft.len() / 4;
-    let room = least(words.len(), bits.len());
+    let places = least(words.len(), bits.len());
     if 65536 < n {
         return Decoding::Refused(Refusal { number: 11 });
     }
-    if room < n {
+    if places < n {
         return Decoding::Refused(Refusal { number: 8 });
     }
     let metric = best_path(soft, &mut words[..n], &mut bits[..n], free);
     Decoding::Done(Score { metric })
 }
 
-// Decodes to the best path that ends in state 0. Four soft values make a step; each step takes one place of `words` and one of `bits`.
+// Decodes to the best path that ends in state 0. Four soft values make a step; each step takes one element of `words` and one of `bits`.
 pub fn viterbi_decode_state0(soft: &[i8], words: &mut [u64], bits: &mut [u8]) -> Decoding
-    ensures { λ r. ⌜ Decoded zeroEnd (now (soft .entry)) (now (words .entry)) (now (bits .entry)) (answerOf r) (now (words .exit)) (now (bits .exit)) ⌝ }
+    ensures { λ r. ⌜ Decoded zeroEnd (now (soft .entry)) (now (words .entry)) (now (bits .entry)) (decodedAs r) (now (words .exit)) (now (bits .exit)) ⌝ }
 {
     decode(soft, &mut *words, &mut *bits, false)
 }
 
 // Decodes to the best path, whatever state it ends in.
 pub fn viterbi_decode_with_metric(soft: &[i8], words: &mut [u64], bits: &mut [u8]) -> Decoding
-    ensures { λ r. ⌜ Decoded freeEnd (now (soft .entry)) (now (words .entry)) (now (bits .entry)) (answerOf r) (now (words .exit)) (now (bits .exit)) ⌝ }
+    ensures { λ r. ⌜ Decoded freeEnd (now (soft .entry)) (now (words .entry)) (now (bits .entry)) (decodedAs r) (now (words .exit)) (now (bits .exit)) ⌝ }
 {
     decode(soft, &mut *words, &mut *bits, true)
 }

@@ -209,13 +209,13 @@ pub fn longest(end: &End, run: &Run, tally: &mut Tally) -> Outcome {
 /// 11 before 8; nothing is written. The Rust knows neither and decodes.
 pub fn refusals(end: &End, run: &Run, tally: &mut Tally) -> Outcome {
     let mut random = run.random(end.name);
-    let mut refused = |length: usize, rooms: [usize; 3], number: u8| {
+    let mut refused = |length: usize, places: [usize; 3], number: u8| {
         let soft = random.soft(length);
-        let before = before(rooms[0], rooms[1], rooms[2]);
+        let before = before(places[0], places[1], places[2]);
         let mut after = before.clone();
         after.number = number;
         tally.listed += u64::from(number == 11);
-        tally.model(Ok(after), ours::decode(end.ours, &soft, &before), || format!("{length} values, rooms {rooms:?}"))
+        tally.model(Ok(after), ours::decode(end.ours, &soft, &before), || format!("{length} values, places {places:?}"))
     };
     for length in [262_148, 262_149, 262_151, 262_152, 300_000] {
         refused(length, [length / 4; 3], 11)?;

@@ -56,7 +56,7 @@ fn all(end: &End, run: &Run, tally: &mut Tally) -> Outcome {
     inputs::refusals(end, run, tally)
 }
 
-/// Room lent beyond the need, for words, bits and metrics.
+/// Places beyond the need, for words, bits and metrics.
 pub struct Spare(pub usize, pub usize, pub usize);
 
 /// What the three buffers hold before a call.

@@ -9,7 +9,7 @@ use crate::air::{Air, KINDS, Kind, symbol};
 use crate::description::Description;
 use crate::random::Random;
 use crate::samples::{anywhere_in_cif, shapes, small_shapes, spread};
-use crate::stores::{ROOM_NAMES, needs};
+use crate::stores::{BUFFERS, needs};
 use crate::tally::{Outcome, Tally};
 
 pub use states::{any_good_state, bad_states};
@@ -106,7 +106,7 @@ impl Life<'_> {
         Ok(())
     }
 
-    /// A call with too little room, or a bad state, in the middle of a run.
+    /// A call with a buffer that is too short, or a bad state, in the middle of a run.
     fn refused(&mut self, soft: &[i8]) -> Outcome {
         self.tally.modelled += 1;
         let needs = needs(&self.receivers.d);
@@ -114,9 +114,9 @@ impl Life<'_> {
             let states = bad_states(&self.receivers.model.state, self.random);
             return self.receivers.refused_state(self.random.pick(&states), soft, &needs, 10);
         }
-        let place = self.random.below(ROOM_NAMES.len());
-        let mut rooms = needs;
-        rooms[place] = self.random.below(needs[place]);
-        self.receivers.refused(soft, &rooms, 8).map_err(|why| format!("too few places of {}: {why}", ROOM_NAMES[place]))
+        let place = self.random.below(BUFFERS.len());
+        let mut places = needs;
+        places[place] = self.random.below(needs[place]);
+        self.receivers.refused(soft, &places, 8).map_err(|why| format!("too few places of {}: {why}", BUFFERS[place]))
     }
 }

@@ -6,7 +6,7 @@ use crate::description::Description;
 use crate::model::protection::judge;
 use crate::random::Random;
 use crate::samples::anywhere_in_cif;
-use crate::stores::{LENGTH, PERCENT, ROOM_NAMES, STATE, needs};
+use crate::stores::{BUFFERS, LENGTH, PERCENT, STATE, needs};
 use crate::tally::{Outcome, Tally};
 
 /// A state of eleven numbers that are all in range, reached or not.
@@ -74,7 +74,7 @@ pub fn bad_states(good: &[u64], random: &mut Random) -> Vec<[u64; 11]> {
     states
 }
 
-/// 8 for state, length and percent, then 10, then 8, then 9; nothing is changed.
+/// 8 for a short state, then 10, then 8, then 9; nothing is changed.
 pub fn refusals(run: &Run, small: &[Description], tally: &mut Tally) -> Outcome {
     let mut random = run.random("feed_symbol refusals");
     for _ in 0..run.times(60, 600) {
@@ -82,29 +82,34 @@ pub fn refusals(run: &Run, small: &[Description], tally: &mut Tally) -> Outcome 
         let told = |why: String| format!("{d:?}: {why}");
         let mut receivers = Receivers::set_up(&d, &mut random).map_err(told)?;
         receivers.put(&any_good_state(&d, &mut random), &[]);
-        let (needs, full) = (needs(&d), receivers.rooms());
+        let (needs, full) = (needs(&d), receivers.places());
         let symbols = [random.soft(3_072), random.soft(3_071), vec![]];
-        for place in 0..ROOM_NAMES.len() {
-            for room in [needs[place] - 1, random.below(needs[place]), 0] {
-                let mut rooms = needs;
-                rooms[place] = room;
+        for place in 0..BUFFERS.len() {
+            for count in [needs[place] - 1, random.below(needs[place]), 0] {
+                let mut places = needs;
+                places[place] = count;
                 for soft in &symbols {
                     tally.modelled += 1;
-                    receivers.refused(soft, &rooms, 8).map_err(told)?;
+                    receivers.refused(soft, &places, 8).map_err(told)?;
                 }
             }
         }
         for state in bad_states(&receivers.model.state, &mut random) {
             let soft = &symbols[random.below(3)];
-            tally.modelled += 3;
+            tally.modelled += 6;
             receivers.refused_state(&state, soft, &full, 10).map_err(told)?;
-            // Bad state and no room at all but for state and answer: 10. No room for those: 8.
-            let bare = std::array::from_fn(|i| if matches!(i, STATE | LENGTH | PERCENT) { needs[i] } else { 0 });
+            // A bad state and nothing else lent, or no place for one part of the answer or for both: 10.
+            let bare = std::array::from_fn(|i| if i == STATE { needs[i] } else { 0 });
             receivers.refused_state(&state, soft, &bare, 10).map_err(told)?;
-            let mut none = full;
-            let place = *random.pick(&[STATE, LENGTH, PERCENT]);
-            none[place] = needs[place] - 1;
-            receivers.refused_state(&state, soft, &none, 8).map_err(told)?;
+            for places in [&[LENGTH][..], &[PERCENT], &[LENGTH, PERCENT]] {
+                let mut none = full;
+                places.iter().for_each(|place| none[*place] = 0);
+                receivers.refused_state(&state, soft, &none, 10).map_err(told)?;
+            }
+            // No state can be read: 8.
+            let mut short = full;
+            short[STATE] = random.below(needs[STATE]);
+            receivers.refused_state(&state, soft, &short, 8).map_err(told)?;
         }
         for length in [0, 1, 3_070, 3_071, random.below(3_072)] {
             tally.modelled += 1;

@@ -45,8 +45,15 @@ loop-holds c = record { inside = omega arith; same = refl }
 shared-slice-read-if1 : tie.Need-shared-slice-read-if1 Inv-loop μ-loop
 shared-slice-read-if1 c = omega arith
 
+-- places of the walk, by name
+abbrev atLoopFromThen1 : tie.Then1 Inv-loop μ-loop → tie.At-loop Inv-loop μ-loop
+atLoopFromThen1 c = c .before .before .before
+
+abbrev atLoopFromElse1 : tie.Else1 Inv-loop μ-loop → tie.At-loop Inv-loop μ-loop
+atLoopFromElse1 c = c .before .before .before
+
 returns : tie.Need-returns Inv-loop μ-loop
-returns c = found (c .before .before .before .loop .inv) (omega arith) (c .if1 .taken)
+returns c = found (atLoopFromThen1 c .loop .inv) (omega arith) (c .if1 .taken)
 
 add-i : tie.Need-add-i Inv-loop μ-loop
 add-i c = omega arith
@@ -55,7 +62,7 @@ loop-less : tie.Need-loop-less Inv-loop μ-loop
 loop-less c = omega arith
 
 loop-again : tie.Need-loop-again Inv-loop μ-loop
-loop-again c = passed (c .before .before .before .loop .inv) (omega arith) (c .if1 .left)
+loop-again c = passed (atLoopFromElse1 c .loop .inv) (omega arith) (c .if1 .left)
 
 returns-2 : tie.Need-returns-2 Inv-loop μ-loop
 returns-2 c = all (c .before .loop .inv) (omega arith)

@@ -60,14 +60,27 @@ part-word-of-start c = search needs
 part-word-of-end : tie.Need-part-word-of-end
 part-word-of-end c = search needs
 
+-- places of the walk, by name
+abbrev else2FromWordOfArg : tie.After-word-of-arg → tie.Else2
+else2FromWordOfArg c = c .before .before .before
+
+abbrev afterAreBitsFromWordOfArg : tie.After-word-of-arg → tie.After-are-bits
+afterAreBitsFromWordOfArg c = c .before .before .before .before
+
+abbrev else2FromWordOf : tie.After-word-of → tie.Else2
+else2FromWordOf c = c .before .before .before .before
+
+abbrev afterAreBitsFromWordOf : tie.After-word-of → tie.After-are-bits
+afterAreBitsFromWordOf c = c .before .before .before .before .before
+
 word-of-requires : tie.Need-word-of-requires
 word-of-requires c κs =
-    (simp (length-take, length-drop) (omega arith), below-take 16 (below-drop 240 (bits-here (c .before .before .before .if2 .left) (c .before .before .before .before .are-bits .ensures))))
+    (simp (length-take, length-drop) (omega arith), below-take 16 (below-drop 240 (bits-here (else2FromWordOfArg c .if2 .left) (afterAreBitsFromWordOfArg c .are-bits .ensures))))
 
 returns-3 : tie.Need-returns-3
 returns-3 c =
     bit-test _ (c .before .before .crc-bits .result) (c .word-of .result) (omega arith)
-    (bits-here (c .before .before .before .before .if2 .left) (c .before .before .before .before .before .are-bits .ensures))
+    (bits-here (else2FromWordOf c .if2 .left) (afterAreBitsFromWordOf c .are-bits .ensures))
     (c .before .before .crc-bits .ensures) (c .word-of .ensures)
 
 pub check-crc-bits-spec : {M : Type 1} → statement M

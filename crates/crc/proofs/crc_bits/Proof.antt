@@ -26,8 +26,15 @@ shared-slice-read-wide c = omega arith
 wide-requires : tie.Need-wide-requires Inv-loop μ-loop
 wide-requires c κs = tt
 
+-- places of the walk, by name
+abbrev entry : tie.After-wide Inv-loop μ-loop → tie.Start Inv-loop μ-loop
+entry c = c .before .before .before .before .before
+
+abbrev atLoop : tie.After-crc-step Inv-loop μ-loop → tie.At-loop Inv-loop μ-loop
+atLoop c = c .before .before .before .before
+
 crc-step-requires : tie.Need-crc-step-requires Inv-loop μ-loop
-crc-step-requires c κs = subst (λ (x : ℕ). x < 2) (sym (c .wide .ensures)) (c .before .before .before .before .before .pre .each _ (omega arith))
+crc-step-requires c κs = subst (λ (x : ℕ). x < 2) (sym (c .wide .ensures)) (entry c .pre .each _ (omega arith))
 
 add-i : tie.Need-add-i Inv-loop μ-loop
 add-i c = omega arith
@@ -36,7 +43,7 @@ loop-less : tie.Need-loop-less Inv-loop μ-loop
 loop-less c = omega arith
 
 loop-again : tie.Need-loop-again Inv-loop μ-loop
-loop-again c = folded-next 0 crcStep (from-snoc 0xffff) (omega arith) (c .crc-step .ensures ∙ ap (crcStep _) (c .before .wide .ensures)) (c .before .before .before .before .loop .inv)
+loop-again c = folded-next 0 crcStep (from-snoc 0xffff) (omega arith) (c .crc-step .ensures ∙ ap (crcStep _) (c .before .wide .ensures)) (atLoop c .loop .inv)
 
 returns : tie.Need-returns Inv-loop μ-loop
 returns c = folded-all 0 (omega arith) (c .before .loop .inv)

@@ -48,8 +48,12 @@ crc-step-requires c κs = omega arith
 loop-less : tie.Need-loop-less Inv-loop μ-loop
 loop-less c = omega arith
 
+-- places of the walk, by name
+abbrev atLoop : tie.After-crc-step Inv-loop μ-loop → tie.At-loop Inv-loop μ-loop
+atLoop c = c .before .before .before
+
 loop-again : tie.Need-loop-again Inv-loop μ-loop
-loop-again c = step (omega arith) (c .before .bit-of .ensures) (c .crc-step .ensures) (c .before .before .before .loop .inv)
+loop-again c = step (omega arith) (c .before .bit-of .ensures) (c .crc-step .ensures) (atLoop c .loop .inv)
 
 returns : tie.Need-returns Inv-loop μ-loop
 returns c = all (omega arith) (c .before .loop .inv)

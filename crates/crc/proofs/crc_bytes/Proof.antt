@@ -38,8 +38,12 @@ add-i c = omega arith
 loop-less : tie.Need-loop-less Inv-loop μ-loop
 loop-less c = omega arith
 
+-- places of the walk, by name
+abbrev atLoop : tie.After-crc-byte Inv-loop μ-loop → tie.At-loop Inv-loop μ-loop
+atLoop c = c .before .before .before
+
 loop-again : tie.Need-loop-again Inv-loop μ-loop
-loop-again c = folded-next 0 (λ (r y : ℕ). crcFrom r (bitsOf 8 y)) (from-byte 0xffff) (omega arith) (c .crc-byte .ensures) (c .before .before .before .loop .inv)
+loop-again c = folded-next 0 (λ (r y : ℕ). crcFrom r (bitsOf 8 y)) (from-byte 0xffff) (omega arith) (c .crc-byte .ensures) (atLoop c .loop .inv)
 
 returns : tie.Need-returns Inv-loop μ-loop
 returns c = folded-all 0 (omega arith) (c .before .loop .inv)

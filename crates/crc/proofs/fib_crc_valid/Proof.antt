@@ -12,6 +12,9 @@ use Rattle.crc.proofs.fib_crc_valid.Tie as tie
 returns : tie.Need-returns
 returns c = too-short _ (c .if1 .taken)
 
+sub-end : tie.Need-sub-end
+sub-end c = search needs
+
 sub-crc-bytes : tie.Need-sub-crc-bytes
 sub-crc-bytes c = search needs
 
@@ -36,28 +39,43 @@ wide-requires c κs = search needs
 mul-sent : tie.Need-mul-sent
 mul-sent c = omega (arith, c .wide .ensures, c .before .shared-slice-known2 .given 30)
 
+add-wide : tie.Need-add-wide
+add-wide c = search needs
+
 shared-slice-read-wide-2 : tie.Need-shared-slice-read-wide-2
 shared-slice-read-wide-2 c = search needs
 
 wide-requires-2 : tie.Need-wide-requires-2
 wide-requires-2 c κs = search needs
 
+-- places of the walk, by name
+abbrev afterSharedSliceKnown2 : tie.After-wide2 → tie.After-shared-slice-known2
+afterSharedSliceKnown2 c = c .before .before .before
+
 add-sent : tie.Need-add-sent
-add-sent c = omega (arith, c .wide2 .ensures, c .before .shared-slice-known3 .given 31, c .before .before .wide .ensures, c .before .before .before .shared-slice-known2 .given 30)
+add-sent c = omega (arith, c .wide2 .ensures, c .before .shared-slice-known3 .given 31, c .before .before .wide .ensures, afterSharedSliceKnown2 c .shared-slice-known2 .given 30)
+
+-- the call, and the first byte of the CRC, from the second
+abbrev summed : tie.After-wide2 → tie.After-crc-bytes
+summed c = c .before .before .before .before
+
+abbrev entry : tie.After-crc-bytes → tie.Start
+entry c = c .before .before .before .before
 
 returns-2 : tie.Need-returns-2
 returns-2 c =
-    let start = c .before .before .before .before .before .before .before .before in
-    let a = c .before .before .before .shared-slice-known2 .given 30 in
+    let s = summed c in
+    let a = afterSharedSliceKnown2 c .shared-slice-known2 .given 30 in
     let b = c .before .shared-slice-known3 .given 31 in
-    ap₂ (λ (x y : ℕ). eqb (0xffff - c .before .before .before .before .crc-bytes .result) (x * 256 + y)) (c .before .before .wide .ensures) (c .wide2 .ensures)
-    ∙ byte-test (start .args .fib .now) (c .before .before .before .before .crc-bytes .result) (omega arith) (omega (arith, a)) (omega (arith, b)) (c .before .before .before .before .crc-bytes .ensures)
+    ap₂ (λ (x y : ℕ). eqb (0xffff - s .crc-bytes .result) (x * 256 + y)) (c .before .before .wide .ensures) (c .wide2 .ensures)
+    ∙ byte-test (entry s .args .fib .now) (s .crc-bytes .result) (omega arith) (omega (arith, a)) (omega (arith, b)) (s .crc-bytes .ensures)
 
 pub fib-crc-valid-spec : {M : Type 1} → statement M
 fib-crc-valid-spec =
     tie.close
     (tie.spec
     returns
+    sub-end
     sub-crc-bytes
     part-crc-bytes-start
     part-crc-bytes-end
@@ -66,6 +84,7 @@ fib-crc-valid-spec =
     shared-slice-read-wide
     wide-requires
     mul-sent
+    add-wide
     shared-slice-read-wide-2
     wide-requires-2
     add-sent

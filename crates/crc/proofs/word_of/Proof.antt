@@ -29,8 +29,18 @@ loop-holds : tie.Need-loop-holds Inv-loop μ-loop
 unfolding numOf
 loop-holds c = record { inside = omega arith; is = refl }
 
+-- places of the walk, by name
+abbrev entryFromInLoop : tie.In-loop Inv-loop μ-loop → tie.Start Inv-loop μ-loop
+entryFromInLoop c = c .before .before .before
+
+abbrev entryFromWide : tie.After-wide Inv-loop μ-loop → tie.Start Inv-loop μ-loop
+entryFromWide c = c .before .before .before .before .before
+
+abbrev atLoop : tie.After-wide Inv-loop μ-loop → tie.At-loop Inv-loop μ-loop
+atLoop c = c .before .before .before
+
 mul-word : tie.Need-mul-word Inv-loop μ-loop
-mul-word c = omega (arith, small (c .before .before .before .pre .1) (omega arith) (c .before .loop .inv))
+mul-word c = omega (arith, small (entryFromInLoop c .pre .1) (omega arith) (c .before .loop .inv))
 
 shared-slice-read-wide : tie.Need-shared-slice-read-wide Inv-loop μ-loop
 shared-slice-read-wide c = omega arith
@@ -39,7 +49,7 @@ wide-requires : tie.Need-wide-requires Inv-loop μ-loop
 wide-requires c κs = tt
 
 add-word : tie.Need-add-word Inv-loop μ-loop
-add-word c = omega (arith, small (c .before .before .before .before .before .pre .1) (omega arith) (c .before .before .before .loop .inv), c .wide .ensures, c .before .before .before .before .before .pre .1 .each (c .before .before .before .loop .i) (omega arith))
+add-word c = omega (arith, small (entryFromWide c .pre .1) (omega arith) (atLoop c .loop .inv), c .wide .ensures, entryFromWide c .pre .1 .each (atLoop c .loop .i) (omega arith))
 
 add-i : tie.Need-add-i Inv-loop μ-loop
 add-i c = omega arith
@@ -48,7 +58,7 @@ loop-less : tie.Need-loop-less Inv-loop μ-loop
 loop-less c = omega arith
 
 loop-again : tie.Need-loop-again Inv-loop μ-loop
-loop-again c = folded-next 0 (λ (r y : ℕ). 2 * r + y) num-snoc (omega arith) (omega (arith, c .wide .ensures)) (c .before .before .before .loop .inv)
+loop-again c = folded-next 0 (λ (r y : ℕ). 2 * r + y) num-snoc (omega arith) (omega (arith, c .wide .ensures)) (atLoop c .loop .inv)
 
 returns : tie.Need-returns Inv-loop μ-loop
 returns c = folded-all 0 (omega arith) (c .before .loop .inv)

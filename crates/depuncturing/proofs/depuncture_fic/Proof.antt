@@ -16,13 +16,18 @@ use borrow.Author.Needs.{needs}
 use Rattle.depuncturing.proofs.depuncture_fic.Statement.{statement}
 use Rattle.depuncturing.proofs.depuncture_fic.Tie as tie
 
+-- past the test of the output's length
+abbrev long : tie.After-fill-profile-arg → tie.Else1
+long c = c .before
+
 returns : tie.Need-returns
 returns c = fill-refused 8 (lit< tt) (ap (check 8) (lt-ltb (length (c .before .args .out .now)) 3096 (c .if1 .taken))) refl refl
 
 fill-profile-requires : tie.Need-fill-profile-requires
 unfolding paramsOf index
 fill-profile-requires c κs =
-    let h : 3096 ≤ length (c .before .before .args .out .now) = c .before .if1 .left in
+    let e = long c in
+    let h : 3096 ≤ length (e .before .args .out .now) = e .if1 .left in
     params-fillable ficProfile fic-usable _ (omega (arith, fic-length))
 
 same-length : tie.Need-same-length
@@ -31,8 +36,9 @@ same-length c = search needs
 returns-2 : tie.Need-returns-2
 unfolding paramsOf index
 returns-2 c =
-    let s = c .before .before .before .before in
-    let h : 3096 ≤ length (s .args .out .now) = c .before .before .before .if1 .left in
+    let e = long (c .before .before) in
+    let s = e .before in
+    let h : 3096 ≤ length (s .args .out .now) = e .if1 .left in
     fill-given (ap (check 8) (le-ltb (length (s .args .out .now)) 3096 h)) refl fic-usable fic-length h (c .before .fill-profile .ensures)
 
 pub depuncture-fic-spec : {M : Type 1} → statement M

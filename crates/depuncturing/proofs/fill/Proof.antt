@@ -34,32 +34,40 @@ shared-slice-read-keep c = c .before .loop-test .taken
 value-at-requires : tie.Need-value-at-requires Inv-loop μ-loop
 value-at-requires c κs = tt
 
+-- the loop that a turn is of, and the start
+abbrev turning : tie.After-value-at Inv-loop μ-loop → tie.At-loop Inv-loop μ-loop
+turning c = c .before .before .before
+
+abbrev start : tie.At-loop Inv-loop μ-loop → tie.Start Inv-loop μ-loop
+start c = c .before .before
+
 -- the place is within `out`, and the number of the next value fits
-room :
+inside :
     (c : tie.After-value-at Inv-loop μ-loop)
-    → let a = c .before .before .before .before .before .args in
-    let l = c .before .before .before .loop in
+    → let a = start (turning c) .args in
+    let l = turning c .loop in
     (a .from + l .j < length (l .out)) × (a .from + l .j < 2 ^ 64) × (l .next + 1 < 2 ^ 64)
-room c =
-    let a = c .before .before .before .before .before .args in
-    let l = c .before .before .before .loop in
+inside c =
+    let s = start (turning c) in
+    let a = s .args in
+    let l = turning c .loop in
     let h : l .j < length (a .kept .now) = c .before .before .loop-test .taken in
-    let p : a .read ≤ a .from = c .before .before .before .before .before .pre .0 in
-    let q : a .from + length (a .kept .now) ≤ length (a .out .now) = c .before .before .before .before .before .pre .1 in
-    let s : length (l .out) ≡ length (a .out .now) = runs-length (l .inv .runs) in
+    let p : a .read ≤ a .from = s .pre .0 in
+    let q : a .from + length (a .kept .now) ≤ length (a .out .now) = s .pre .1 in
+    let k : length (l .out) ≡ length (a .out .now) = runs-length (l .inv .runs) in
     let u : l .next ≤ a .read + length (flags (take (l .j) (a .kept .now))) = runs-used (l .inv .runs) in
     let v : length (flags (take (l .j) (a .kept .now))) ≡ l .j = length-flags (a .kept .now) (l .j) (l .inv .upto) in
-    let g : length (a .out .now) < 2 ^ 64 = c .before .before .before .before .before .good .1 .1 .1 .0 .0 in
+    let g : length (a .out .now) < 2 ^ 64 = s .good .1 .1 .1 .0 .0 in
     (omega arith, omega arith, omega arith)
 
 add-v : tie.Need-add-v Inv-loop μ-loop
-add-v c = record { fits = room c .1 }
+add-v c = record { fits = inside c .1 }
 
 slice-set-from-v : tie.Need-slice-set-from-v Inv-loop μ-loop
-slice-set-from-v c = room c .0
+slice-set-from-v c = inside c .0
 
 moved-requires : tie.Need-moved-requires Inv-loop μ-loop
-moved-requires c κs = room c .2
+moved-requires c κs = inside c .2
 
 add-j : tie.Need-add-j Inv-loop μ-loop
 add-j c = omega arith
@@ -69,11 +77,11 @@ loop-less c = omega arith
 
 loop-again : tie.Need-loop-again Inv-loop μ-loop
 loop-again c =
-    let w = c .before .before .before in
-    let l = w .before .loop in
-    let a = w .before .before .before .args in
-    let h : l .j < length (a .kept .now) = w .loop-test .taken in
-    let e = back w8 (c .before .value-at .ok) (c .before .value-at .ensures) in
+    let v = c .before in
+    let l = turning v .loop in
+    let a = start (turning v) .args in
+    let h : l .j < length (a .kept .now) = v .before .before .loop-test .taken in
+    let e = back w8 (v .value-at .ok) (v .value-at .ensures) in
     let one = runs-one (flag (getD (a .kept .now) (l .j) 0)) (l .next) (a .from + l .j) (l .out) in
     record {
       upto = omega arith;
@@ -87,7 +95,7 @@ same-length c = runs-length (c .before .loop .inv .runs)
 
 returns : tie.Need-returns Inv-loop μ-loop
 returns c =
-    let a = c .before .before .before .args in
+    let a = start (c .before) .args in
     let h : length (a .kept .now) ≤ c .before .loop .j = c .loop-test .left in
     let e : take (c .before .loop .j) (a .kept .now) ≡ a .kept .now = take-all (c .before .loop .j) (a .kept .now) h in
     rw e at (c .before .loop .inv .runs)

@@ -12,18 +12,47 @@ use borrow.Author.Needs.{needs}
 use Rattle.depuncturing.proofs.fill_profile.Statement.{statement}
 use Rattle.depuncturing.proofs.fill_profile.Tie as tie
 
+-- the start, and each region before the next
+abbrev beginning : tie.After-fill-region-arg → tie.Start
+beginning c = c .before .before .before
+
+abbrev start1 : tie.After-fill-region → tie.Start
+start1 c = beginning (c .before)
+
+abbrev first : tie.After-fill-region2 → tie.After-fill-region
+first c = c .before .before .before
+
+abbrev start2 : tie.After-fill-region2 → tie.Start
+start2 c = start1 (first c)
+
+abbrev second : tie.After-fill-region3 → tie.After-fill-region2
+second c = c .before .before .before
+
+abbrev start3 : tie.After-fill-region3 → tie.Start
+start3 c = start2 (second c)
+
+abbrev third : tie.After-fill-region4 → tie.After-fill-region3
+third c = c .before .before .before
+
+abbrev start4 : tie.After-fill-region4 → tie.Start
+start4 c = start3 (third c)
+
+-- the fourth before the tail
+abbrev fourth : tie.After-fill-arg → tie.After-fill-region4
+fourth c = c .before .before .before .before
+
 -- what is filled after each region
-up1 : (c : tie.After-fill-region) → let p = c .before .before .before .before .args .p in Upto (masks1 p) (c .before .before .before .before .args .soft .now) (c .before .before .before .before .args .out .now) (c .fill-region .last .1 .1 .1 .1 .0) (c .fill-region .result) (128 * getD (p .blocks) 0 0)
+up1 : (c : tie.After-fill-region) → let a = start1 c .args in let p = a .p in Upto (masks1 p) (a .soft .now) (a .out .now) (c .fill-region .last .1 .1 .1 .1 .0) (c .fill-region .result) (128 * getD (p .blocks) 0 0)
 up1 c = upto-first _ _ (c .fill-region .ensures)
 
-up2 : (c : tie.After-fill-region2) → let p = c .before .before .before .before .before .before .before .args .p in Upto (masks2 p) (c .before .before .before .before .before .before .before .args .soft .now) (c .before .before .before .before .before .before .before .args .out .now) (c .fill-region2 .last .1 .1 .1 .1 .0) (c .fill-region2 .result) (128 * getD (p .blocks) 0 0 + 128 * getD (p .blocks) 1 0)
-up2 c = upto-region (up1 (c .before .before .before)) _ _ (c .fill-region2 .ensures)
+up2 : (c : tie.After-fill-region2) → let a = start2 c .args in let p = a .p in Upto (masks2 p) (a .soft .now) (a .out .now) (c .fill-region2 .last .1 .1 .1 .1 .0) (c .fill-region2 .result) (128 * getD (p .blocks) 0 0 + 128 * getD (p .blocks) 1 0)
+up2 c = upto-region (up1 (first c)) _ _ (c .fill-region2 .ensures)
 
-up3 : (c : tie.After-fill-region3) → let p = c .before .before .before .before .before .before .before .before .before .before .args .p in Upto (masks3 p) (c .before .before .before .before .before .before .before .before .before .before .args .soft .now) (c .before .before .before .before .before .before .before .before .before .before .args .out .now) (c .fill-region3 .last .1 .1 .1 .1 .0) (c .fill-region3 .result) (128 * getD (p .blocks) 0 0 + 128 * getD (p .blocks) 1 0 + 128 * getD (p .blocks) 2 0)
-up3 c = upto-region (up2 (c .before .before .before)) _ _ (c .fill-region3 .ensures)
+up3 : (c : tie.After-fill-region3) → let a = start3 c .args in let p = a .p in Upto (masks3 p) (a .soft .now) (a .out .now) (c .fill-region3 .last .1 .1 .1 .1 .0) (c .fill-region3 .result) (128 * getD (p .blocks) 0 0 + 128 * getD (p .blocks) 1 0 + 128 * getD (p .blocks) 2 0)
+up3 c = upto-region (up2 (second c)) _ _ (c .fill-region3 .ensures)
 
-up4 : (c : tie.After-fill-region4) → let p = c .before .before .before .before .before .before .before .before .before .before .before .before .before .args .p in Upto (masks4 p) (c .before .before .before .before .before .before .before .before .before .before .before .before .before .args .soft .now) (c .before .before .before .before .before .before .before .before .before .before .before .before .before .args .out .now) (c .fill-region4 .last .1 .1 .1 .1 .0) (c .fill-region4 .result) (128 * getD (p .blocks) 0 0 + 128 * getD (p .blocks) 1 0 + 128 * getD (p .blocks) 2 0 + 128 * getD (p .blocks) 3 0)
-up4 c = upto-region (up3 (c .before .before .before)) _ _ (c .fill-region4 .ensures)
+up4 : (c : tie.After-fill-region4) → let a = start4 c .args in let p = a .p in Upto (masks4 p) (a .soft .now) (a .out .now) (c .fill-region4 .last .1 .1 .1 .1 .0) (c .fill-region4 .result) (128 * getD (p .blocks) 0 0 + 128 * getD (p .blocks) 1 0 + 128 * getD (p .blocks) 2 0 + 128 * getD (p .blocks) 3 0)
+up4 c = upto-region (up3 (third c)) _ _ (c .fill-region4 .ensures)
 
 array-read-at1 : tie.Need-array-read-at1
 array-read-at1 c = search needs
@@ -65,7 +94,7 @@ array-read-fill-region-2 : tie.Need-array-read-fill-region-2
 array-read-fill-region-2 c = search needs
 
 fill-region-requires : tie.Need-fill-region-requires
-fill-region-requires c κs = let s = c .before .before .before in (omega arith, omega (arith, s .pre .fits), s .pre .vectors 0)
+fill-region-requires c κs = let s = beginning c in (omega arith, omega (arith, s .pre .fits), s .pre .vectors 0)
 
 array-read-fill-region-3 : tie.Need-array-read-fill-region-3
 array-read-fill-region-3 c = search needs
@@ -75,7 +104,7 @@ array-read-fill-region-4 c = search needs
 
 fill-region-requires-2 : tie.Need-fill-region-requires-2
 fill-region-requires-2 c κs =
-    let s = c .before .before .before .before .before .before in
+    let s = start1 (c .before .before) in
     let u = up1 (c .before .before) in
     (upto-used u, omega (arith, s .pre .fits, upto-length u), s .pre .vectors 1)
 
@@ -87,7 +116,7 @@ array-read-fill-region-6 c = search needs
 
 fill-region-requires-3 : tie.Need-fill-region-requires-3
 fill-region-requires-3 c κs =
-    let s = c .before .before .before .before .before .before .before .before .before in
+    let s = start2 (c .before .before) in
     let u = up2 (c .before .before) in
     (upto-used u, omega (arith, s .pre .fits, upto-length u), s .pre .vectors 2)
 
@@ -99,7 +128,7 @@ array-read-fill-region-8 c = search needs
 
 fill-region-requires-4 : tie.Need-fill-region-requires-4
 fill-region-requires-4 c κs =
-    let s = c .before .before .before .before .before .before .before .before .before .before .before .before in
+    let s = start3 (c .before .before) in
     let u = up3 (c .before .before) in
     (upto-used u, omega (arith, s .pre .fits, upto-length u), s .pre .vectors 3)
 
@@ -111,8 +140,8 @@ slice-aggregate-fill c = search needs
 
 fill-requires : tie.Need-fill-requires
 fill-requires c κs =
-    let s = c .before .before .before .before .before .before .before .before .before .before .before .before .before .before .before .before .before in
-    let u = up4 (c .before .before .before .before) in
+    let s = start4 (fourth c) in
+    let u = up4 (fourth c) in
     (upto-used u, omega (arith, s .pre .fits, upto-length u, length-tail))
 
 same-length : tie.Need-same-length
@@ -120,10 +149,10 @@ same-length c = search needs
 
 returns : tie.Need-returns
 returns c =
-    let s = c .before .before .before .before .before .before .before .before .before .before .before .before .before .before .before .before .before .before .before in
-    let e : flags (c .before .before .before .before .tail .result) ≡ tailMask = ap flags (c .before .before .before .before .tail .ensures) ∙ flags-of-bits tailMask in
-    let u = upto-next (up4 (c .before .before .before .before .before .before)) tailMask 24 length-tail (rw e at (c .before .fill .ensures)) in
-    rw (masks-all (s .args .p)) at (u .runs .places)
+    let t = c .before .before in
+    let e : flags (t .before .before .tail .result) ≡ tailMask = ap flags (t .before .before .tail .ensures) ∙ flags-of-bits tailMask in
+    let u = upto-next (up4 (fourth t)) tailMask 24 length-tail (rw e at (c .before .fill .ensures)) in
+    rw (masks-all (start4 (fourth t) .args .p)) at (u .runs .places)
 
 pub fill-profile-spec : {M : Type 1} → statement M
 fill-profile-spec =

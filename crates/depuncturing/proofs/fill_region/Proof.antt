@@ -61,47 +61,59 @@ loop-holds c =
 slice-aggregate-fill : tie.Need-slice-aggregate-fill Inv-loop μ-loop
 slice-aggregate-fill c = sym (c .before .before .loop .inv .long)
 
+-- the loop that a turn is of, and the start
+abbrev turning : tie.After-fill-arg Inv-loop μ-loop → tie.At-loop Inv-loop μ-loop
+turning c = c .before .before .before
+
+abbrev start : tie.At-loop Inv-loop μ-loop → tie.Start Inv-loop μ-loop
+start c = c .before .before .before
+
 -- the sub-block is within `out`, and its place fits
-room :
+inside :
     (c : tie.After-fill-arg Inv-loop μ-loop)
-    → let a = c .before .before .before .before .before .before .args in
-    let l = c .before .before .before .loop in
-    ((l .next ≤ a .from + 32 * l .i) × (a .from + 32 * l .i + length (c .before .before .before .before .vector-of .result) ≤ length (l .out))) × (32 * l .i < 2 ^ 64) × (a .from + 32 * l .i < 2 ^ 64)
-room c =
-    let s = c .before .before .before .before .before .before in
+    → let a = start (turning c) .args in
+    let l = turning c .loop in
+    ((l .next ≤ a .from + 32 * l .i) × (a .from + 32 * l .i + length (turning c .before .vector-of .result) ≤ length (l .out))) × (32 * l .i < 2 ^ 64) × (a .from + 32 * l .i < 2 ^ 64)
+inside c =
+    let s = start (turning c) in
     let a = s .args in
-    let l = c .before .before .before .loop in
+    let l = turning c .loop in
     let h : l .i < 4 * a .blocks = c .before .before .loop-test .taken in
     let p : a .read ≤ a .from = s .pre .0 in
     let q : a .from + 128 * a .blocks ≤ length (a .out .now) = s .pre .1 in
     let k : length (l .out) ≡ length (a .out .now) = runs-length (l .inv .runs) in
     let u : l .next ≤ a .read + length (copies (l .i) (vector (a .pi + 1))) = runs-used (l .inv .runs) in
     let v : length (copies (l .i) (vector (a .pi + 1))) ≡ l .i * 32 = length-copies (l .i) (vector (a .pi + 1)) ∙ ap (λ (m : ℕ). l .i * m) (length-vector (a .pi + 1)) in
-    let w : length (c .before .before .before .before .vector-of .result) ≡ 32 = l .inv .long in
+    let w : length (turning c .before .vector-of .result) ≡ 32 = l .inv .long in
     let g : length (a .out .now) < 2 ^ 64 = s .good .1 .1 .1 .1 .0 .0 in
     ((omega arith, omega arith), omega arith, omega arith)
 
+-- a sub-block is left
+more : (c : tie.After-fill-arg Inv-loop μ-loop) → turning c .loop .i < 4 * start (turning c) .args .blocks
+more c = c .before .before .loop-test .taken
+
 mul-fill : tie.Need-mul-fill Inv-loop μ-loop
-mul-fill c = record { fits = room c .1 }
+mul-fill c = record { fits = inside c .1 }
 
 add-fill : tie.Need-add-fill Inv-loop μ-loop
-add-fill c = record { fits = room c .2 }
+add-fill c = record { fits = inside c .2 }
 
 fill-requires : tie.Need-fill-requires Inv-loop μ-loop
-fill-requires c κs = room c .0
+fill-requires c κs = inside c .0
 
 add-i : tie.Need-add-i Inv-loop μ-loop
-add-i c = let h : c .before .before .before .before .before .loop .i < 4 * c .before .before .before .before .before .before .before .before .args .blocks = c .before .before .before .before .loop-test .taken in omega (arith, room (c .before .before) .1)
+add-i c = omega (arith, more (c .before .before), inside (c .before .before) .1)
 
 loop-less : tie.Need-loop-less Inv-loop μ-loop
-loop-less c = let h : c .before .before .before .before .before .loop .i < 4 * c .before .before .before .before .before .before .before .before .args .blocks = c .before .before .before .before .loop-test .taken in omega arith
+loop-less c = omega (arith, more (c .before .before))
 
 loop-again : tie.Need-loop-again Inv-loop μ-loop
 loop-again c =
-    let s = c .before .before .before .before .before .before .before .before in
-    let l = c .before .before .before .before .before .loop in
+    let f = c .before .before in
+    let s = start (turning f) in
+    let l = turning f .loop in
     let ks = vector (s .args .pi + 1) in
-    let h : l .i < 4 * s .args .blocks = c .before .before .before .before .loop-test .taken in
+    let h : l .i < 4 * s .args .blocks = more f in
     let e : s .args .from + 32 * l .i ≡ s .args .from + length (copies (l .i) ks) = omega (arith, length-copies (l .i) ks ∙ ap (λ (m : ℕ). l .i * m) (length-vector (s .args .pi + 1))) in
     record {
       mask = l .inv .mask;
@@ -117,7 +129,7 @@ same-length c = runs-length (c .before .loop .inv .runs)
 returns-2 : tie.Need-returns-2 Inv-loop μ-loop
 unfolding regionMask
 returns-2 c =
-    let s = c .before .before .before .before in
+    let s = start (c .before) in
     let l = c .before .loop in
     let h : 4 * s .args .blocks ≤ l .i = c .loop-test .left in
     let e : s .args .blocks * 4 ≡ l .i = omega (arith, l .inv .upto) in

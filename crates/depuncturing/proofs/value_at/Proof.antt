@@ -17,7 +17,7 @@ shared-slice-copy-out-result : tie.Need-shared-slice-copy-out-result
 shared-slice-copy-out-result c = search needs
 
 returns-2 : tie.Need-returns-2
-returns-2 c = let a = c .before .before .before .args in rw (ne-eqb (a .keep) 0 (c .before .before .if1 .left)) (back w8 (c .result .given) refl)
+returns-2 c = let e = c .before .before in let a = e .before .args in rw (ne-eqb (a .keep) 0 (e .if1 .left)) (back w8 (c .result .given) refl)
 
 returns-3 : tie.Need-returns-3
 returns-3 c = let a = c .before .before .args in rw (ne-eqb (a .keep) 0 (c .before .if1 .left)) (sym (List·getD-eq-default (a .soft .now) (pos 0) (c .if2 .left)))

@@ -66,11 +66,15 @@ mixed-requires c κs = omega arith
 slice-write-bits : tie.Need-slice-write-bits Inv-loop μ-loop
 slice-write-bits c = omega arith
 
+-- places of the walk, by name
+abbrev atLoop : tie.After-mixed Inv-loop μ-loop → tie.At-loop Inv-loop μ-loop
+atLoop c = c .before .before .before .before
+
 mul-reg : tie.Need-mul-reg Inv-loop μ-loop
-mul-reg c = omega (arith, reg-lt (c .before .before .before .before .loop .inv))
+mul-reg c = omega (arith, reg-lt (atLoop c .loop .inv))
 
 add-reg : tie.Need-add-reg Inv-loop μ-loop
-add-reg c = omega (arith, reg-lt (c .before .before .before .before .loop .inv))
+add-reg c = omega (arith, reg-lt (atLoop c .loop .inv))
 
 add-i : tie.Need-add-i Inv-loop μ-loop
 add-i c = omega arith
@@ -79,7 +83,7 @@ loop-less : tie.Need-loop-less Inv-loop μ-loop
 loop-less c = simp length-set (omega arith)
 
 loop-again : tie.Need-loop-again Inv-loop μ-loop
-loop-again c = step (c .before .before .before .before .loop .inv) (omega arith) (c .before .before .next-bit .ensures) (c .mixed .ensures)
+loop-again c = step (atLoop c .loop .inv) (omega arith) (c .before .before .next-bit .ensures) (c .mixed .ensures)
 
 same-length : tie.Need-same-length Inv-loop μ-loop
 same-length c = c .before .loop .inv .changed .long

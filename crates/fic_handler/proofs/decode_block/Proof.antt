@@ -15,16 +15,17 @@ use Rattle.spec_trellis.specs.Trellis.{zeroEnd}
 use Rattle.quality.specs.declared.Quality.{Quality}
 use Rattle.quality.specs.Figures.{qualityOf}
 use Rattle.viterbi.specs.declared.Decoding.{Decoding}
-use Rattle.viterbi.specs.Decoders.{answerOf, Decoded, metricOf}
+use Rattle.viterbi.specs.Decoders.{decodedAs, Decoded, metricOf}
 use Rattle.viterbi.specs.Result.{Decodes, ChoiceWords}
 use Rattle.viterbi.proofs.Result.{Finished, finished, decoded-length}
-use Rattle.fic_handler.specs.Blocks.{dataBits, BlockDecoded}
+use Rattle.fic_handler.specs.Blocks.{dataBits}
+use Rattle.fic_handler.specs.Code.{BlockDecoded}
 use Rattle.fic_handler.proofs.decode_block.Statement.{statement}
 use Rattle.fic_handler.proofs.decode_block.Tie as tie
 
 -- what the decoder and the dispersal leave, put together
 joined-up : (xs : List ℤ) (words bits words' mid new : List ℕ) (r : Decoding) {q : Quality} → length xs ≡ 3096 → 774 ≤ length words → 774 ≤ length bits
-    → Decoded zeroEnd xs words bits (answerOf r) words' mid → new ≡ disperse (take 768 mid) → q ≡ qualityOf (metricOf r) xs → BlockDecoded xs words bits q words' (new ++ drop 768 mid)
+    → Decoded zeroEnd xs words bits (decodedAs r) words' mid → new ≡ disperse (take 768 mid) → q ≡ qualityOf (metricOf r) xs → BlockDecoded xs words bits q words' (new ++ drop 768 mid)
 unfolding dataBits
 joined-up xs words bits words' mid new r {q} e hw hb d n k = go (finished r (omega arith) (omega arith) (omega arith) d)
   where
@@ -75,14 +76,24 @@ same-length c = search needs
 same-length-2 : tie.Need-same-length-2
 same-length-2 c = search needs
 
+-- places of the walk, by name
+abbrev afterViterbiDecodeState0 : tie.After-quality-of → tie.After-viterbi-decode-state0
+afterViterbiDecodeState0 c = c .before .before .before .before .before .before .before .before .before .before
+
+abbrev entry : tie.After-viterbi-decode-state0 → tie.Start
+entry c = c .before .before .before .before .before
+
+abbrev afterEnergyDispersal : tie.After-quality-of → tie.After-energy-dispersal
+afterEnergyDispersal c = c .before .before .before .before
+
 returns : tie.Need-returns
 returns c =
-    let call = c .before .before .before .before .before .before .before .before .before .before in
-    let start = call .before .before .before .before .before in
+    let call = afterViterbiDecodeState0 c in
+    let start = entry call in
     let mid = call .viterbi-decode-state0 .last .1 .1 .0 in
     let r = call .viterbi-decode-state0 .result in
-    joined-up (start .args .depunctured .now) (start .args .words .now) (start .args .bits .now) (call .viterbi-decode-state0 .last .1 .0) mid (c .before .before .before .before .energy-dispersal .last .0) r
-    (start .pre .0) (start .pre .1 .0) (start .pre .1 .1) (call .viterbi-decode-state0 .ensures) (c .before .before .before .before .energy-dispersal .ensures)
+    joined-up (start .args .depunctured .now) (start .args .words .now) (start .args .bits .now) (call .viterbi-decode-state0 .last .1 .0) mid (afterEnergyDispersal c .energy-dispersal .last .0) r
+    (start .pre .0) (start .pre .1 .0) (start .pre .1 .1) (call .viterbi-decode-state0 .ensures) (afterEnergyDispersal c .energy-dispersal .ensures)
     (c .quality-of .ensures ∙ ap (λ (m : ℤ). qualityOf m (start .args .depunctured .now)) (back w32 (c .before .metric-of .ok) (c .before .metric-of .ensures)))
 
 pub decode-block-spec : {M : Type 1} → statement M

@@ -63,9 +63,13 @@ loop-again c =
       done = filled (pos 0) (turn .loop .block) (turn .loop .i) _ (λ (k : ℕ). at (joined (turn .before .before .args .first .now) (turn .before .before .args .second .now) (turn .before .before .args .third .now)) (turn .before .before .args .from + k)) (omega (arith, v .long)) (v .done) (back w8 (c .value .ok) (c .value .ensures));
     }
 
+-- places of the walk, by name
+abbrev entry : tie.After-loop Inv-loop μ-loop → tie.Start Inv-loop μ-loop
+entry c = c .before .before .before
+
 returns : tie.Need-returns Inv-loop μ-loop
 returns c =
-    let start = c .before .before .before in
+    let start = entry c in
     whole (simp length-append (omega arith)) (omega arith) (c .before .loop .inv)
 
 pub gather-spec : {M : Type 1} → statement M

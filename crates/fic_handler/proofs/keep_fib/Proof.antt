@@ -13,7 +13,7 @@ use Rattle.en300401.specs.Bytes.{bytesOfBits}
 use Rattle.en300401.specs.Crc.{fibValid}
 use Rattle.crc.specs.Tests.{bitTest}
 use Rattle.crc.proofs.Agree.{bit-is}
-use Rattle.fic_handler.specs.Blocks.{KeptFib}
+use Rattle.fic_handler.specs.Code.{KeptFib}
 use Rattle.fic_handler.proofs.keep_fib.Statement.{statement}
 use Rattle.fic_handler.proofs.keep_fib.Tie as tie
 
@@ -27,9 +27,22 @@ module _ (bits out : List ℕ) {r t : Bool} (e : length bits ≡ 256) (h : AreBi
 check-crc-bits-requires : tie.Need-check-crc-bits-requires
 check-crc-bits-requires c κs = search needs
 
+-- places of the walk, by name
+abbrev entryFromThen1 : tie.Then1 → tie.Start
+entryFromThen1 c = c .before .before .before .before
+
+abbrev entryFromSliceKnown2 : tie.After-slice-known2 → tie.Start
+entryFromSliceKnown2 c = c .before .before .before .before .before .before .before .before
+
+abbrev afterCheckCrcBits : tie.After-slice-known2 → tie.After-check-crc-bits
+afterCheckCrcBits c = c .before .before .before .before .before
+
+abbrev else1 : tie.After-slice-known2 → tie.Else1
+else1 c = c .before .before .before .before
+
 returns : tie.Need-returns
 returns c =
-    let start = c .before .before .before .before in
+    let start = entryFromThen1 c in
     made (start .args .bits .now) (start .args .out .now) {t = false} (start .pre .0 .0) (start .pre .1) (c .before .check-crc-bits .ensures) (not-true _ (c .if1 .taken)) refl refl
 
 pack-fib-requires : tie.Need-pack-fib-requires
@@ -40,8 +53,8 @@ same-length c = search needs
 
 returns-2 : tie.Need-returns-2
 returns-2 c =
-    let start = c .before .before .before .before .before .before .before .before in
-    made (start .args .bits .now) (start .args .out .now) {t = true} (start .pre .0 .0) (start .pre .1) (c .before .before .before .before .before .check-crc-bits .ensures) (not-false _ (c .before .before .before .before .if1 .left)) refl (c .before .before .pack-fib .ensures)
+    let start = entryFromSliceKnown2 c in
+    made (start .args .bits .now) (start .args .out .now) {t = true} (start .pre .0 .0) (start .pre .1) (afterCheckCrcBits c .check-crc-bits .ensures) (not-false _ (else1 c .if1 .left)) refl (c .before .before .pack-fib .ensures)
 
 pub keep-fib-spec : {M : Type 1} → statement M
 keep-fib-spec =

@@ -11,7 +11,8 @@ use mir.Syntax.{w64}
 use mir.Val.{Fits}
 use Rattle.laws.proofs.Bits.{below-take, below-drop}
 use Rattle.laws.proofs.Slices.{tail-part, tail-put, size-of-part}
-use Rattle.fic_handler.specs.Blocks.{KeptFib, KeptFibs, fibOf, passedBytes, countOf}
+use Rattle.fic_handler.specs.Blocks.{fibOf, passedBytes, countOf}
+use Rattle.fic_handler.specs.Code.{KeptFib, KeptFibs}
 use Rattle.fic_handler.proofs.Fibs.{count-le, kept-lt, kept-next}
 use Rattle.fic_handler.proofs.keep_fibs.Statement.{statement}
 use Rattle.fic_handler.proofs.keep_fibs.Tie as tie
@@ -82,27 +83,43 @@ part-keep-fib-start-2 c = sub-keep-fib-2 c
 part-keep-fib-end-2 : tie.Need-part-keep-fib-end-2 Inv-loop μ-loop
 part-keep-fib-end-2 c = le-refl (length (c .before .before .loop .fibs))
 
+-- places of the walk, by name
+abbrev atLoopFromKeepFibArg2 : tie.After-keep-fib-arg2 Inv-loop μ-loop → tie.At-loop Inv-loop μ-loop
+atLoopFromKeepFibArg2 c = c .before .before .before
+
+abbrev entryFromAtLoop : tie.At-loop Inv-loop μ-loop → tie.Start Inv-loop μ-loop
+entryFromAtLoop c = c .before .before .before
+
+abbrev atLoopFromSliceKnown2 : tie.After-slice-known2 Inv-loop μ-loop → tie.At-loop Inv-loop μ-loop
+atLoopFromSliceKnown2 c = c .before .before .before .before .before .before
+
+abbrev inLoop : tie.After-slice-known2 Inv-loop μ-loop → tie.In-loop Inv-loop μ-loop
+inLoop c = c .before .before .before .before .before
+
+abbrev entryFromLoop : tie.After-loop Inv-loop μ-loop → tie.Start Inv-loop μ-loop
+entryFromLoop c = c .before .before .before .before
+
 keep-fib-requires : tie.Need-keep-fib-requires Inv-loop μ-loop
 keep-fib-requires c κs =
-    let turn = c .before .before .before in
-    let start = turn .before .before .before in
+    let turn = atLoopFromKeepFibArg2 c in
+    let start = entryFromAtLoop turn in
     let v = turn .loop .inv in
     ((simp (length-take, length-drop) (omega arith), simp (length-take, length-drop) (omega (arith, few v, v .long))), below-take (256 * turn .loop .j + 256 - 256 * turn .loop .j) (below-drop (256 * turn .loop .j) (start .pre .1)))
 
 add-kept : tie.Need-add-kept Inv-loop μ-loop
-add-kept c = omega (arith, few (c .before .before .before .before .before .before .loop .inv), kept-lt (c .before .before .keep-fib .ensures))
+add-kept c = omega (arith, few (atLoopFromSliceKnown2 c .loop .inv), kept-lt (c .before .before .keep-fib .ensures))
 
 add-j : tie.Need-add-j Inv-loop μ-loop
-add-j c = bounds (c .before .before .before .before .before .loop-test .taken) .2
+add-j c = bounds (inLoop c .loop-test .taken) .2
 
 loop-less : tie.Need-loop-less Inv-loop μ-loop
-loop-less c = nearer (c .before .before .before .before .before .loop-test .taken)
+loop-less c = nearer (inLoop c .loop-test .taken)
 
 loop-again : tie.Need-loop-again Inv-loop μ-loop
 loop-again c =
-    let turn = c .before .before .before .before .before .before in
-    let start = turn .before .before .before in
-    next (start .pre .0 .0) (c .before .before .before .before .before .loop-test .taken) (start .pre .0 .1) (turn .loop .inv) (c .before .before .keep-fib .ensures) (c .before .before .keep-fib .kept .1 .0)
+    let turn = atLoopFromSliceKnown2 c in
+    let start = entryFromAtLoop turn in
+    next (start .pre .0 .0) (inLoop c .loop-test .taken) (start .pre .0 .1) (turn .loop .inv) (c .before .before .keep-fib .ensures) (c .before .before .keep-fib .kept .1 .0)
 
 same-length : tie.Need-same-length Inv-loop μ-loop
 same-length c = c .before .loop .inv .long
@@ -111,7 +128,7 @@ returns : tie.Need-returns Inv-loop μ-loop
 returns c =
     let v = c .before .loop .inv in
     let three : c .before .loop .j ≡ 3 = omega (arith, v .inside) in
-    subst (λ (n : ℕ). KeptFibs (c .before .before .before .before .args .bits .now) n (c .before .before .before .before .args .fibs .now) (c .before .loop .kept) (c .before .loop .fibs)) three (v .fibs-are)
+    subst (λ (n : ℕ). KeptFibs (entryFromLoop c .args .bits .now) n (entryFromLoop c .args .fibs .now) (c .before .loop .kept) (c .before .loop .fibs)) three (v .fibs-are)
 
 pub keep-fibs-spec : {M : Type 1} → statement M
 keep-fibs-spec =

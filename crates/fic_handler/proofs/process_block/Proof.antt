@@ -29,11 +29,39 @@ sub-decode-block c = from-0 3096
 part-decode-block-start : tie.Need-part-decode-block-start
 part-decode-block-start c = from-0 3096
 
+-- places of the walk, by name
+abbrev entryFromDepunctured2 : tie.After-depunctured2 → tie.Start
+entryFromDepunctured2 c = c .before .before .before .before .before .before .before
+
+abbrev entryFromDecodeBlockArg3 : tie.After-decode-block-arg3 → tie.Start
+entryFromDecodeBlockArg3 c = c .before .before .before .before .before .before .before .before .before .before
+
+abbrev afterDecodeBlockFromBits2 : tie.After-bits2 → tie.After-decode-block
+afterDecodeBlockFromBits2 c = c .before .before .before .before .before
+
+abbrev entryFromBits2 : tie.After-bits2 → tie.Start
+entryFromBits2 c = c .before .before .before .before .before .before .before .before .before .before .before .before .before .before .before .before
+
+abbrev afterDecodeBlockFromKeepFibsArg2 : tie.After-keep-fibs-arg2 → tie.After-decode-block
+afterDecodeBlockFromKeepFibsArg2 c = c .before .before .before .before .before .before .before
+
+abbrev entryFromKeepFibsArg2 : tie.After-keep-fibs-arg2 → tie.Start
+entryFromKeepFibsArg2 c = c .before .before .before .before .before .before .before .before .before .before .before .before .before .before .before .before .before .before
+
+abbrev afterDepunctureFic : tie.After-slice-known6 → tie.After-depuncture-fic
+afterDepunctureFic c = c .before .before .before .before .before .before .before .before .before .before .before .before .before .before .before .before
+
+abbrev afterDecodeBlockFromSliceKnown6 : tie.After-slice-known6 → tie.After-decode-block
+afterDecodeBlockFromSliceKnown6 c = c .before .before .before .before .before .before .before .before .before .before
+
+abbrev entryFromSliceKnown6 : tie.After-slice-known6 → tie.Start
+entryFromSliceKnown6 c = c .before .before .before .before .before .before .before .before .before .before .before .before .before .before .before .before .before .before .before .before .before
+
 part-decode-block-end : tie.Need-part-decode-block-end
-part-decode-block-end c = still (c .before .before .depuncture-fic .kept .1 .0) (c .before .before .before .before .before .before .before .pre .values)
+part-decode-block-end c = still (c .before .before .depuncture-fic .kept .1 .0) (entryFromDepunctured2 c .pre .values)
 
 decode-block-requires : tie.Need-decode-block-requires
-decode-block-requires c κs = let room = c .before .before .before .before .before .before .before .before .before .before .pre in (c .before .before .decode-block-arg .given .2, (room .choices, room .places))
+decode-block-requires c κs = let room = entryFromDecodeBlockArg3 c .pre in (c .before .before .decode-block-arg .given .2, (room .choices, room .places))
 
 sub-keep-fibs : tie.Need-sub-keep-fibs
 sub-keep-fibs c = from-0 768
@@ -42,31 +70,31 @@ part-keep-fibs-start : tie.Need-part-keep-fibs-start
 part-keep-fibs-start c = from-0 768
 
 part-keep-fibs-end : tie.Need-part-keep-fibs-end
-part-keep-fibs-end c = data-inside (c .before .before .before .before .before .decode-block .kept .1 .1 .0) (c .before .before .before .before .before .before .before .before .before .before .before .before .before .before .before .before .pre .places)
+part-keep-fibs-end c = data-inside (afterDecodeBlockFromBits2 c .decode-block .kept .1 .1 .0) (entryFromBits2 c .pre .places)
 
 keep-fibs-requires : tie.Need-keep-fibs-requires
 keep-fibs-requires c κs =
-    let b = c .before .before .before .before .before .before .before .decode-block .ensures in
-    ((ap length (data-front b) ∙ data-length (b .decodes), c .before .before .before .before .before .before .before .before .before .before .before .before .before .before .before .before .before .before .pre .out), subst AreBits (sym (data-front b)) (data-are (b .decodes)))
+    let b = afterDecodeBlockFromKeepFibsArg2 c .decode-block .ensures in
+    ((ap length (data-front b) ∙ data-length (b .decodes), entryFromKeepFibsArg2 c .pre .out), subst AreBits (sym (data-front b)) (data-are (b .decodes)))
 
 same-length : tie.Need-same-length
-same-length c = c .before .before .before .before .before .before .before .before .before .before .before .before .before .before .before .before .depuncture-fic .kept .1 .0
+same-length c = afterDepunctureFic c .depuncture-fic .kept .1 .0
 
 same-length-2 : tie.Need-same-length-2
-same-length-2 c = c .before .before .before .before .before .before .before .before .before .before .decode-block .kept .1 .0
+same-length-2 c = afterDecodeBlockFromSliceKnown6 c .decode-block .kept .1 .0
 
 same-length-3 : tie.Need-same-length-3
-same-length-3 c = c .before .before .before .before .before .before .before .before .before .before .decode-block .kept .1 .1 .0
+same-length-3 c = afterDecodeBlockFromSliceKnown6 c .decode-block .kept .1 .1 .0
 
 same-length-4 : tie.Need-same-length-4
 same-length-4 c = c .before .before .keep-fibs .kept .1 .0
 
 returns : tie.Need-returns
 returns c =
-    let start = c .before .before .before .before .before .before .before .before .before .before .before .before .before .before .before .before .before .before .before .before .before in
-    let decoded = c .before .before .before .before .before .before .before .before .before .before .decode-block in
+    let start = entryFromSliceKnown6 c in
+    let decoded = afterDecodeBlockFromSliceKnown6 c .decode-block in
     let kept = c .before .before .keep-fibs in
-    let dep = c .before .before .before .before .before .before .before .before .before .before .before .before .before .before .before .before .depuncture-fic in
+    let dep = afterDepunctureFic c .depuncture-fic in
     block-done (start .args .block .now) (lent (start .args .depunctured .now) (start .args .words .now) (start .args .bits .now) (start .args .fibs .now))
     (lent (dep .last .1 .0) (decoded .last .1 .0) (decoded .last .1 .1 .0) (kept .last .1 .0)) (dep .result) (decoded .result) (kept .result) (start .pre .values) (dep .ensures) (decoded .ensures) (kept .ensures)
 

@@ -13,8 +13,9 @@ use lib.ListN.{length, set, take, drop, length-append, length-take, length-drop}
 use Rattle.laws.specs.Lists.{listFrom}
 use Rattle.laws.proofs.Slices.{tail-part, tail-put}
 use Rattle.quality.specs.declared.Quality.{Quality}
-use Rattle.fic_handler.specs.Blocks.{joined, blockOf, dataBits, written, BlockProcessed, Lent, lent}
-use Rattle.fic_handler.specs.Promise.{Room, Processed}
+use Rattle.fic_handler.specs.Blocks.{joined, blockOf, dataBits, written, Lent, lent}
+use Rattle.fic_handler.specs.Code.{BlockProcessed, BlocksFit}
+use Rattle.fic_handler.specs.Promise.{Processed}
 use Rattle.fic_handler.proofs.Run.{Run, run-none, run-next, behind}
 use Rattle.fic_handler.proofs.Fibs.{count-le}
 use Rattle.refusal.specs.Outcome.{gives}
@@ -33,16 +34,16 @@ record Inv (xs : List ℤ) (n : ℕ) (before after : Lent) (passed : List ℕ) (
 joined-length : (a b c : List ℤ) → length (joined a b c) ≡ length a + (length b + length c)
 joined-length a b c = length-append a (b ++ c) ∙ ap (λ (n : ℕ). length a + n) (length-append b c)
 
-room-left : {xs : List ℤ} {n : ℕ} {before after : Lent} {passed : List ℕ} {quality : List Quality} {sum b : ℕ} → Room n xs before → b < n → Inv xs n before after passed quality sum b → 32 * sum + 96 ≤ length (after .fibs)
+room-left : {xs : List ℤ} {n : ℕ} {before after : Lent} {passed : List ℕ} {quality : List Quality} {sum b : ℕ} → BlocksFit n xs before → b < n → Inv xs n before after passed quality sum b → 32 * sum + 96 ≤ length (after .fibs)
 room-left r h v = omega (arith, v .run .few, v .long-fibs, r .out)
 
-block-length : {n b : ℕ} {before : Lent} {block : List ℤ} (x y z : List ℤ) → Room n (joined x y z) before → b < n → block ≡ take 2304 (drop (2304 * b) (joined x y z)) → length block ≡ 2304
+block-length : {n b : ℕ} {before : Lent} {block : List ℤ} (x y z : List ℤ) → BlocksFit n (joined x y z) before → b < n → block ≡ take 2304 (drop (2304 * b) (joined x y z)) → length block ≡ 2304
 block-length {n} {b} x y z room h e = ap length e ∙ simp (length-take, length-drop) (omega (arith, room .whole))
 
 at-most-three : {values : List ℤ} {before after : Lent} {count : ℕ} {q : Quality} → BlockProcessed values before count q after → count ≤ 3
 at-most-three p = omega (arith, p .count-is, count-le (dataBits (p .block .decoded)) 3)
 
-block-inside : {n b : ℕ} {before : Lent} (x y z : List ℤ) → Room n (joined x y z) before → b < n → (2304 * b + 2304 ≤ length x + (length y + length z)) × (2304 * b < 10000)
+block-inside : {n b : ℕ} {before : Lent} (x y z : List ℤ) → BlocksFit n (joined x y z) before → b < n → (2304 * b + 2304 ≤ length x + (length y + length z)) × (2304 * b < 10000)
 block-inside x y z room h = (omega (arith, room .whole, joined-length x y z), omega (arith, room .few))
 
 -- the bounds of the numbers that the code makes, each shown apart from the walk
@@ -52,10 +53,10 @@ bounds few h = (omega arith, omega arith, omega arith, omega arith, omega arith)
 sum-bounds : {n b sum count : ℕ} → n ≤ 4 → b < n → sum ≤ 3 * b → count ≤ 3 → Fits w64 (32 * sum) × Fits w64 (sum + count)
 sum-bounds few h s k = (omega arith, omega arith)
 
-start-inside : {xs : List ℤ} {n : ℕ} {before after : Lent} {passed : List ℕ} {quality : List Quality} {sum b : ℕ} → Room n xs before → b < n → Inv xs n before after passed quality sum b → 32 * sum ≤ length (after .fibs)
+start-inside : {xs : List ℤ} {n : ℕ} {before after : Lent} {passed : List ℕ} {quality : List Quality} {sum b : ℕ} → BlocksFit n xs before → b < n → Inv xs n before after passed quality sum b → 32 * sum ≤ length (after .fibs)
 start-inside r h v = omega (arith, room-left r h v)
 
-tail-room : {xs : List ℤ} {n : ℕ} {before after : Lent} {passed : List ℕ} {quality : List Quality} {sum b : ℕ} → Room n xs before → b < n → Inv xs n before after passed quality sum b → 96 ≤ length (take (length (after .fibs) - 32 * sum) (drop (32 * sum) (after .fibs)))
+tail-room : {xs : List ℤ} {n : ℕ} {before after : Lent} {passed : List ℕ} {quality : List Quality} {sum b : ℕ} → BlocksFit n xs before → b < n → Inv xs n before after passed quality sum b → 96 ≤ length (take (length (after .fibs) - 32 * sum) (drop (32 * sum) (after .fibs)))
 tail-room r h v = simp (length-take, length-drop) (omega (arith, room-left r h v))
 
 nearer : {n b : ℕ} → b < n → n - (b + 1) < n - b
@@ -65,7 +66,7 @@ one-more : {n b : ℕ} → b < n → b + 1 ≤ n
 one-more h = omega arith
 
 -- one block more: the part of the output from byte 32 sum on was lent
-next : {xs : List ℤ} {n b sum count : ℕ} {before after : Lent} {passed : List ℕ} {quality : List Quality} {q : Quality} {block : List ℤ} {dep : List ℤ} {ws bs new : List ℕ} → b + 1 ≤ n → Room n xs before → b < n
+next : {xs : List ℤ} {n b sum count : ℕ} {before after : Lent} {passed : List ℕ} {quality : List Quality} {q : Quality} {block : List ℤ} {dep : List ℤ} {ws bs new : List ℕ} → b + 1 ≤ n → BlocksFit n xs before → b < n
     → block ≡ take 2304 (drop (2304 * b) xs) → Inv xs n before after passed quality sum b
     → BlockProcessed block (lent (after .depunctured) (after .words) (after .bits) (take (length (after .fibs) - 32 * sum) (drop (32 * sum) (after .fibs)))) count q (lent dep ws bs new)
     → length dep ≡ length (after .depunctured) → length ws ≡ length (after .words) → length bs ≡ length (after .bits) → length new ≡ length (take (length (after .fibs) - 32 * sum) (drop (32 * sum) (after .fibs)))
@@ -116,10 +117,71 @@ abbrev μ-loop : tie.MeasureT-loop
 none-requires : tie.Need-none-requires Inv-loop μ-loop
 none-requires c κs = tt
 
+-- places of the walk, by name
+abbrev entryFromNone : tie.After-none Inv-loop μ-loop → tie.Start Inv-loop μ-loop
+entryFromNone c = c .before .before .before .before
+
+abbrev entryFromInLoop : tie.In-loop Inv-loop μ-loop → tie.Start Inv-loop μ-loop
+entryFromInLoop c = c .before .before .before .before .before .before
+
+abbrev entryFromGather : tie.After-gather Inv-loop μ-loop → tie.Start Inv-loop μ-loop
+entryFromGather c = c .before .before .before .before .before .before .before
+
+abbrev atLoopFromBlock : tie.After-block Inv-loop μ-loop → tie.At-loop Inv-loop μ-loop
+atLoopFromBlock c = c .before .before .before
+
+abbrev entryFromAtLoop : tie.At-loop Inv-loop μ-loop → tie.Start Inv-loop μ-loop
+entryFromAtLoop c = c .before .before .before .before .before
+
+abbrev entryFromProcessBlockArg3 : tie.After-process-block-arg3 Inv-loop μ-loop → tie.Start Inv-loop μ-loop
+entryFromProcessBlockArg3 c = c .before .before .before .before .before .before .before .before .before .before .before
+
+abbrev inLoopFromProcessBlockArg3 : tie.After-process-block-arg3 Inv-loop μ-loop → tie.In-loop Inv-loop μ-loop
+inLoopFromProcessBlockArg3 c = c .before .before .before .before .before
+
+abbrev atLoopFromProcessBlockArg3 : tie.After-process-block-arg3 Inv-loop μ-loop → tie.At-loop Inv-loop μ-loop
+atLoopFromProcessBlockArg3 c = c .before .before .before .before .before .before
+
+abbrev atLoopFromProcessBlockArg4 : tie.After-process-block-arg4 Inv-loop μ-loop → tie.At-loop Inv-loop μ-loop
+atLoopFromProcessBlockArg4 c = c .before .before .before .before .before .before .before
+
+abbrev inLoopFromProcessBlockArg4 : tie.After-process-block-arg4 Inv-loop μ-loop → tie.In-loop Inv-loop μ-loop
+inLoopFromProcessBlockArg4 c = c .before .before .before .before .before .before
+
+abbrev afterGatherFromProcessBlockArg4 : tie.After-process-block-arg4 Inv-loop μ-loop → tie.After-gather Inv-loop μ-loop
+afterGatherFromProcessBlockArg4 c = c .before .before .before .before .before
+
+abbrev entryFromSliceKnown6 : tie.After-slice-known6 Inv-loop μ-loop → tie.Start Inv-loop μ-loop
+entryFromSliceKnown6 c = c .before .before .before .before .before .before .before .before .before .before .before .before .before .before .before .before .before .before .before .before
+
+abbrev inLoopFromSliceKnown6 : tie.After-slice-known6 Inv-loop μ-loop → tie.In-loop Inv-loop μ-loop
+inLoopFromSliceKnown6 c = c .before .before .before .before .before .before .before .before .before .before .before .before .before .before
+
+abbrev entryFromQ : tie.After-q Inv-loop μ-loop → tie.Start Inv-loop μ-loop
+entryFromQ c = c .before .before .before .before .before .before .before .before .before .before .before .before .before .before .before .before .before .before .before .before .before
+
+abbrev inLoopFromQ : tie.After-q Inv-loop μ-loop → tie.In-loop Inv-loop μ-loop
+inLoopFromQ c = c .before .before .before .before .before .before .before .before .before .before .before .before .before .before .before
+
+abbrev entryFromStructKnown : tie.After-struct-known Inv-loop μ-loop → tie.Start Inv-loop μ-loop
+entryFromStructKnown c = c .before .before .before .before .before .before .before .before .before .before .before .before .before .before .before .before .before .before .before .before .before .before
+
+abbrev inLoopFromStructKnown : tie.After-struct-known Inv-loop μ-loop → tie.In-loop Inv-loop μ-loop
+inLoopFromStructKnown c = c .before .before .before .before .before .before .before .before .before .before .before .before .before .before .before .before
+
+abbrev atLoopFromStructKnown : tie.After-struct-known Inv-loop μ-loop → tie.At-loop Inv-loop μ-loop
+atLoopFromStructKnown c = c .before .before .before .before .before .before .before .before .before .before .before .before .before .before .before .before .before
+
+abbrev afterProcessBlock : tie.After-struct-known Inv-loop μ-loop → tie.After-process-block Inv-loop μ-loop
+afterProcessBlock c = c .before .before .before .before .before .before .before .before .before
+
+abbrev afterGatherFromStructKnown : tie.After-struct-known Inv-loop μ-loop → tie.After-gather Inv-loop μ-loop
+afterGatherFromStructKnown c = c .before .before .before .before .before .before .before .before .before .before .before .before .before .before .before
+
 loop-holds : tie.Need-loop-holds Inv-loop μ-loop
 unfolding listFrom
 loop-holds c =
-    let start = c .before .before .before .before in
+    let start = entryFromNone c in
     let absent : Quality → List Quality = λ q. q ∷ q ∷ q ∷ q ∷ [] in
     record {
       inside = omega arith;
@@ -131,41 +193,41 @@ loop-holds c =
     }
 
 mul-gather : tie.Need-mul-gather Inv-loop μ-loop
-mul-gather c = bounds (c .before .before .before .before .before .before .pre .few) (c .loop-test .taken) .1
+mul-gather c = bounds (entryFromInLoop c .pre .few) (c .loop-test .taken) .1
 
 gather-requires : tie.Need-gather-requires Inv-loop μ-loop
-gather-requires c κs = let a = c .before .before .before .before .before .before .args in block-inside (a .first .now) (a .second .now) (a .third .now) (c .before .before .before .before .before .before .pre) (c .loop-test .taken)
+gather-requires c κs = let a = entryFromInLoop c .args in block-inside (a .first .now) (a .second .now) (a .third .now) (entryFromInLoop c .pre) (c .loop-test .taken)
 
 mul-at : tie.Need-mul-at Inv-loop μ-loop
-mul-at c = sum-bounds (c .before .before .before .before .before .before .before .pre .few) (c .before .loop-test .taken) (c .before .before .loop .inv .run .few) (le-refl 3) .0
+mul-at c = sum-bounds (entryFromGather c .pre .few) (c .before .loop-test .taken) (c .before .before .loop .inv .run .few) (le-refl 3) .0
 
 slice-aggregate-process-block : tie.Need-slice-aggregate-process-block Inv-loop μ-loop
 slice-aggregate-process-block c =
-    let turn = c .before .before .before in
+    let turn = atLoopFromBlock c in
     let taken = c .before .before .loop-test .taken in
-    let start = turn .before .before .before .before .before in
+    let start = entryFromAtLoop turn in
     let v = turn .loop .inv in
     let room = start .pre in
     sym (block-length (start .args .first .now) (start .args .second .now) (start .args .third .now) room taken (c .before .gather .ensures))
 
 sub-process-block : tie.Need-sub-process-block Inv-loop μ-loop
-sub-process-block c = start-inside (c .before .before .before .before .before .before .before .before .before .before .before .pre) (c .before .before .before .before .before .loop-test .taken) (c .before .before .before .before .before .before .loop .inv)
+sub-process-block c = start-inside (entryFromProcessBlockArg3 c .pre) (inLoopFromProcessBlockArg3 c .loop-test .taken) (atLoopFromProcessBlockArg3 c .loop .inv)
 
 part-process-block-start : tie.Need-part-process-block-start Inv-loop μ-loop
 part-process-block-start c = sub-process-block c
 
 part-process-block-end : tie.Need-part-process-block-end Inv-loop μ-loop
-part-process-block-end c = le-refl (length (c .before .before .before .before .before .before .loop .fibs))
+part-process-block-end c = le-refl (length (atLoopFromProcessBlockArg3 c .loop .fibs))
 
 process-block-requires : tie.Need-process-block-requires Inv-loop μ-loop
 process-block-requires c κs =
-    let turn = c .before .before .before .before .before .before .before in
-    let taken = c .before .before .before .before .before .before .loop-test .taken in
-    let start = turn .before .before .before .before .before in
+    let turn = atLoopFromProcessBlockArg4 c in
+    let taken = inLoopFromProcessBlockArg4 c .loop-test .taken in
+    let start = entryFromAtLoop turn in
     let v = turn .loop .inv in
     let room = start .pre in
     record {
-      whole = block-length (start .args .first .now) (start .args .second .now) (start .args .third .now) room taken (c .before .before .before .before .before .gather .ensures);
+      whole = block-length (start .args .first .now) (start .args .second .now) (start .args .third .now) room taken (afterGatherFromProcessBlockArg4 c .gather .ensures);
       values = subst (λ (m : ℕ). 3096 ≤ m) (sym (v .long-depunctured)) (room .values);
       choices = subst (λ (m : ℕ). 774 ≤ m) (sym (v .long-words)) (room .choices);
       places = subst (λ (m : ℕ). 774 ≤ m) (sym (v .long-bits)) (room .places);
@@ -173,35 +235,35 @@ process-block-requires c κs =
     }
 
 mul-passed : tie.Need-mul-passed Inv-loop μ-loop
-mul-passed c = bounds (c .before .before .before .before .before .before .before .before .before .before .before .before .before .before .before .before .before .before .before .before .pre .few) (c .before .before .before .before .before .before .before .before .before .before .before .before .before .before .loop-test .taken) .2
+mul-passed c = bounds (entryFromSliceKnown6 c .pre .few) (inLoopFromSliceKnown6 c .loop-test .taken) .2
 
 array-write-passed : tie.Need-array-write-passed Inv-loop μ-loop
-array-write-passed c = bounds (c .before .before .before .before .before .before .before .before .before .before .before .before .before .before .before .before .before .before .before .before .pre .few) (c .before .before .before .before .before .before .before .before .before .before .before .before .before .before .loop-test .taken) .0
+array-write-passed c = bounds (entryFromSliceKnown6 c .pre .few) (inLoopFromSliceKnown6 c .loop-test .taken) .0
 
 mul-quality : tie.Need-mul-quality Inv-loop μ-loop
-mul-quality c = bounds (c .before .before .before .before .before .before .before .before .before .before .before .before .before .before .before .before .before .before .before .before .before .pre .few) (c .before .before .before .before .before .before .before .before .before .before .before .before .before .before .before .loop-test .taken) .3
+mul-quality c = bounds (entryFromQ c .pre .few) (inLoopFromQ c .loop-test .taken) .3
 
 array-set-from-quality : tie.Need-array-set-from-quality Inv-loop μ-loop
-array-set-from-quality c = bounds (c .before .before .before .before .before .before .before .before .before .before .before .before .before .before .before .before .before .before .before .before .before .pre .few) (c .before .before .before .before .before .before .before .before .before .before .before .before .before .before .before .loop-test .taken) .0
+array-set-from-quality c = bounds (entryFromQ c .pre .few) (inLoopFromQ c .loop-test .taken) .0
 
 add-sum : tie.Need-add-sum Inv-loop μ-loop
-add-sum c = sum-bounds (c .before .before .before .before .before .before .before .before .before .before .before .before .before .before .before .before .before .before .before .before .before .before .pre .few) (c .before .before .before .before .before .before .before .before .before .before .before .before .before .before .before .before .loop-test .taken) (c .before .before .before .before .before .before .before .before .before .before .before .before .before .before .before .before .before .loop .inv .run .few) (at-most-three (c .before .before .before .before .before .before .before .before .before .process-block .ensures)) .1
+add-sum c = sum-bounds (entryFromStructKnown c .pre .few) (inLoopFromStructKnown c .loop-test .taken) (atLoopFromStructKnown c .loop .inv .run .few) (at-most-three (afterProcessBlock c .process-block .ensures)) .1
 
 add-b : tie.Need-add-b Inv-loop μ-loop
-add-b c = bounds (c .before .before .before .before .before .before .before .before .before .before .before .before .before .before .before .before .before .before .before .before .before .before .pre .few) (c .before .before .before .before .before .before .before .before .before .before .before .before .before .before .before .before .loop-test .taken) .4
+add-b c = bounds (entryFromStructKnown c .pre .few) (inLoopFromStructKnown c .loop-test .taken) .4
 
 loop-less : tie.Need-loop-less Inv-loop μ-loop
-loop-less c = nearer (c .before .before .before .before .before .before .before .before .before .before .before .before .before .before .before .before .loop-test .taken)
+loop-less c = nearer (inLoopFromStructKnown c .loop-test .taken)
 
 loop-again : tie.Need-loop-again Inv-loop μ-loop
 loop-again c =
-    let turn = c .before .before .before .before .before .before .before .before .before .before .before .before .before .before .before .before .before in
-    let taken = c .before .before .before .before .before .before .before .before .before .before .before .before .before .before .before .before .loop-test .taken in
-    let start = turn .before .before .before .before .before in
+    let turn = atLoopFromStructKnown c in
+    let taken = inLoopFromStructKnown c .loop-test .taken in
+    let start = entryFromAtLoop turn in
     let v = turn .loop .inv in
     let room = start .pre in
-    let done = c .before .before .before .before .before .before .before .before .before .process-block in
-    next (one-more taken) room taken (c .before .before .before .before .before .before .before .before .before .before .before .before .before .before .before .gather .ensures) v (done .ensures) (done .kept .1 .0) (done .kept .1 .1 .0) (done .kept .1 .1 .1 .0) (done .kept .1 .1 .1 .1 .0)
+    let done = afterProcessBlock c .process-block in
+    next (one-more taken) room taken (afterGatherFromStructKnown c .gather .ensures) v (done .ensures) (done .kept .1 .0) (done .kept .1 .1 .0) (done .kept .1 .1 .1 .0) (done .kept .1 .1 .1 .1 .0)
 
 same-length : tie.Need-same-length Inv-loop μ-loop
 same-length c =

@@ -31,9 +31,16 @@ sub-j c = search needs
 shared-slice-copy-out-result-2 : tie.Need-shared-slice-copy-out-result-2
 shared-slice-copy-out-result-2 c = search needs
 
+-- places of the walk, by name
+abbrev entryFromResult2 : tie.After-result2 → tie.Start
+entryFromResult2 c = c .before .before .before
+
+abbrev entryFromResult3 : tie.After-result3 → tie.Start
+entryFromResult3 c = c .before .before .before
+
 returns-2 : tie.Need-returns-2
 returns-2 c =
-    let a = c .before .before .before .args in
+    let a = entryFromResult2 c .args in
     back w8 (c .result2 .given)
     (sym (List·getD-append (a .second .now) (a .third .now) (pos 0) (a .i - length (a .first .now)) (omega arith)) ∙ behind (a .first .now) (a .second .now ++ a .third .now) (a .i) (omega arith))
 
@@ -45,7 +52,7 @@ shared-slice-copy-out-result-3 c = search needs
 
 returns-3 : tie.Need-returns-3
 returns-3 c =
-    let a = c .before .before .before .args in
+    let a = entryFromResult3 c .args in
     back w8 (c .result3 .given)
     (behind (a .second .now) (a .third .now) (a .i - length (a .first .now)) (omega arith) ∙ behind (a .first .now) (a .second .now ++ a .third .now) (a .i) (omega arith))
 

@@ -1,8 +1,10 @@
 -- `figure_places::put_counts` meets its contract: five numbers in the first five places.
 -- Assumes nothing.
+use mathlib.Core.List.{_∷_}
 use native.Mathlib.Omega.{arith}
 use lib.ListN.{length-set}
-use Rattle.figure_places.proofs.FicCalls.{five-set}
+use Rattle.laws.proofs.Lists.{sets-front}
+use Rattle.figure_places.specs.Code.{firstFour}
 use borrow.Author.Needs.{needs}
 use Rattle.figure_places.proofs.put_counts.Statement.{statement}
 use Rattle.figure_places.proofs.put_counts.Tie as tie
@@ -38,7 +40,7 @@ same-length : tie.Need-same-length
 same-length c = search needs
 
 returns : tie.Need-returns
-returns c = five-set _ _ _ _ _ (c .args .counts .now) (c .pre)
+returns c = sets-front (c .args .n ∷ firstFour 0 (c .args .t2)) (c .args .counts .now) (c .pre)
 
 pub put-counts-spec : {M : Type 1} → statement M
 put-counts-spec =

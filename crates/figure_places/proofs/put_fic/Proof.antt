@@ -1,24 +1,40 @@
--- `figure_places::put_fic` meets its contract, answer by answer.
+-- `figure_places::put_fic` meets its contract: the refusal's number, or the figures in their places.
 -- Assumes nothing.
+use mathlib.Core.Path.{ap, _∙_}
+use Prim.Native.Nat.{ℕ}
+use Rattle.figure_places.specs.Code.{countsPut}
 use Rattle.figure_places.proofs.FicCalls.{told-refused, told-fibs}
 use borrow.Author.Needs.{needs}
 use Rattle.figure_places.proofs.put_fic.Statement.{statement}
 use Rattle.figure_places.proofs.put_fic.Tie as tie
 
-enum-known-answer : tie.Need-enum-known-answer
-enum-known-answer c = search needs
+-- the calls, from the end
+abbrev records : tie.After-slice-known4 → tie.After-put-qualities
+records c = c .before .before .before
 
-enum-known-answer-2 : tie.Need-enum-known-answer-2
-enum-known-answer-2 c = search needs
+abbrev counts : tie.After-put-qualities → tie.After-put-counts
+counts c = c .before .before .before .before .before
+
+abbrev fibs : tie.After-put-counts → tie.After-fibs-in
+fibs c = c .before .before
+
+abbrev start : tie.After-refusal-in → tie.Start
+start c = c .before .before .before .before .before
+
+refusal-in-requires : tie.Need-refusal-in-requires
+refusal-in-requires c κs = search needs
+
+returns : tie.Need-returns
+returns c = told-refused (start (c .before) .args .fic) _ (c .before .refusal-in .ensures) (c .if1 .taken)
+
+fibs-in-requires : tie.Need-fibs-in-requires
+fibs-in-requires c κs = search needs
 
 put-counts-requires : tie.Need-put-counts-requires
 put-counts-requires c κs = search needs
 
 put-qualities-requires : tie.Need-put-qualities-requires
 put-qualities-requires c κs = search needs
-
-returns : tie.Need-returns
-returns c = told-refused _ _ _ (c .before .answer .given .1) _
 
 same-length : tie.Need-same-length
 same-length c = search needs
@@ -30,17 +46,23 @@ same-length-3 : tie.Need-same-length-3
 same-length-3 c = search needs
 
 returns-2 : tie.Need-returns-2
-returns-2 c = told-fibs _ _ _ (c .before .before .before .before .before .before .before .before .before .before .before .answer2 .given .1) (record { counts-are = c .before .before .before .before .before .before .before .before .put-counts .ensures; records = c .before .before .before .put-qualities .ensures })
+returns-2 c =
+    let q = records c in
+    let p = counts q in
+    let e = fibs p .before in
+    let a = start (e .before) .args in
+    told-fibs (a .fic) (e .before .refusal-in .ensures) (e .if1 .left)
+    (record { counts-are = p .put-counts .ensures ∙ ap (λ (n : ℕ). countsPut n (a .fic .passed) (a .counts .now)) (fibs p .fibs-in .ensures); records = q .put-qualities .ensures })
 
 pub put-fic-spec : {M : Type 1} → statement M
 put-fic-spec =
     tie.close
     (tie.spec
-    enum-known-answer
-    enum-known-answer-2
+    refusal-in-requires
+    returns
+    fibs-in-requires
     put-counts-requires
     put-qualities-requires
-    returns
     same-length
     same-length-2
     same-length-3

@@ -6,6 +6,22 @@ use borrow.Author.Needs.{needs}
 use Rattle.figure_places.proofs.put_qualities.Statement.{statement}
 use Rattle.figure_places.proofs.put_qualities.Tie as tie
 
+-- places on the way, by name
+abbrev past-put-quality4 : tie.After-slice-known5 → tie.After-put-quality4
+past-put-quality4 c = c .before .before .before
+
+abbrev past-put-quality3 : tie.After-put-quality4 → tie.After-put-quality3
+past-put-quality3 c = c .before .before .before .before .before .before
+
+abbrev past-put-quality2 : tie.After-put-quality3 → tie.After-put-quality2
+past-put-quality2 c = c .before .before .before .before .before .before
+
+abbrev past-put-quality : tie.After-put-quality2 → tie.After-put-quality
+past-put-quality c = c .before .before .before .before .before .before
+
+abbrev start : tie.After-put-quality → tie.Start
+start c = c .before .before .before .before .before .before .before .before
+
 array-copy-out-q0 : tie.Need-array-copy-out-q0
 array-copy-out-q0 c = search needs
 
@@ -38,11 +54,11 @@ same-length-2 c = search needs
 
 returns : tie.Need-returns
 returns c =
-    let d = c .before .before .before in
-    let e = d .before .before .before .before .before .before in
-    let f = e .before .before .before .before .before .before in
-    let g = f .before .before .before .before .before .before in
-    let start = g .before .before .before .before .before .before .before .before in
+    let d = past-put-quality4 c in
+    let e = past-put-quality3 d in
+    let f = past-put-quality2 e in
+    let g = past-put-quality f in
+    let start = start g in
     as-all _ refl (four-put (start .pre .0) (start .pre .1) (g .put-quality .ensures) (f .put-quality2 .ensures) (e .put-quality3 .ensures) (d .put-quality4 .ensures))
 
 pub put-qualities-spec : {M : Type 1} → statement M

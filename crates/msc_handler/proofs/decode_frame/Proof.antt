@@ -13,7 +13,7 @@ use Rattle.en300401.proofs.Puncturing.{length-depuncture}
 use Rattle.refusal.specs.Outcome.{unlessRefused}
 use Rattle.protection.specs.Refusals.{profileOf, roomOf}
 use Rattle.protection.proofs.Profiles.{accepted-length, accepted-rate}
-use Rattle.depuncturing.proofs.Depunctures.{room-given}
+use Rattle.depuncturing.proofs.Depunctures.{long-enough}
 use Rattle.viterbi.specs.Decoders.{endsOf}
 use Rattle.msc_handler.specs.Frames.{Framed}
 use Rattle.msc_state.specs.States.{valuesOf, stepsOf}
@@ -41,10 +41,23 @@ module _ (c : tie.After-depuncture-msc) where
   dep-is =
       let d = start .args .d in
       let old = start .args .depunctured .now in
-      c .depuncture-msc .ensures .places ∙ ap (λ (n : ℕ). unlessRefused n (soft ++ drop (roomOf d) old) old) (room-given d (take (valuesOf d) (start .args .deinterleaved .now)) old (start .pre .none) (start .pre .soft-long))
+      c .depuncture-msc .ensures .places ∙ ap (λ (n : ℕ). unlessRefused n (soft ++ drop (roomOf d) old) old) (long-enough d (take (valuesOf d) (start .args .deinterleaved .now)) old (start .pre .none) (start .pre .soft-long))
 
   front-is : take (96 * start .args .d .bitrate + 24) (c .depuncture-msc .last .1 .1 .0) ≡ soft
   front-is = ap (take (96 * start .args .d .bitrate + 24)) dep-is ∙ take-at soft _ (96 * start .args .d .bitrate + 24) soft-long
+
+-- places on the way, by name
+abbrev begun : tie.After-depuncture-msc-arg → tie.Start
+begun c = c .before .before .before .before .before .before
+
+abbrev past-depuncture-msc : tie.After-frame-of-arg4 → tie.After-depuncture-msc
+past-depuncture-msc c = c .before .before .before .before .before
+
+abbrev past-frame-of : tie.After-slice-known6 → tie.After-frame-of
+past-frame-of c = c .before .before .before .before .before .before
+
+abbrev past-depuncture-msc-2 : tie.After-frame-of → tie.After-depuncture-msc
+past-depuncture-msc-2 c = c .before .before .before .before .before .before
 
 cast-n : tie.Need-cast-n
 cast-n c = search needs
@@ -63,7 +76,7 @@ add-m c = search needs
 
 slice-aggregate-depuncture-msc : tie.Need-slice-aggregate-depuncture-msc
 slice-aggregate-depuncture-msc c =
-    let s = c .before .before .before .before .before .before in
+    let s = begun c in
     sym (length-take-le _ _ (s .pre .read-long))
 
 depuncture-msc-requires : tie.Need-depuncture-msc-requires
@@ -79,7 +92,7 @@ slice-aggregate-frame-of c =
 
 frame-of-requires : tie.Need-frame-of-requires
 frame-of-requires c κs =
-    let t = c .before .before .before .before .before in
+    let t = past-depuncture-msc c in
     let s = start t in
     record {
       soft-long = ap length (front-is t) ∙ soft-long t;
@@ -103,8 +116,8 @@ same-length-4 c = search needs
 
 returns : tie.Need-returns
 returns c =
-    let f = c .before .before .before .before .before .before in
-    let t = f .before .before .before .before .before .before in
+    let f = past-frame-of c in
+    let t = past-depuncture-msc-2 f in
     let s = start t in
     let d = s .args .d in
     (dep-is t, subst (λ (xs : List ℤ). Framed (endsOf (d .«is_eep»)) (d .bitrate) xs (s .args .words .now) (s .args .bits .now) (s .args .frame .now) (f .frame-of .result) (f .frame-of .last .1 .1 .1 .0) (f .frame-of .last .1 .1 .1 .1 .0) (f .frame-of .last .1 .1 .1 .1 .1 .0)) (front-is t) (f .frame-of .ensures))

@@ -76,91 +76,92 @@ Inv-loop own ring₀ x out₀ map n i₀ ring out i = Inv own ring₀ x n ring o
 abbrev μ-loop : tie.MeasureT-loop
 μ-loop own ring₀ x out₀ map n i₀ ring out i = n - i
 
--- src/lib.rt:68:5
 fit : (c : tie.Start Inv-loop μ-loop) → Fit (c .args .own .now) (c .args .ring .now) (c .args .x) (length (c .args .out .now))
 fit c = record { index = c .pre .0; ring-long = c .pre .1; own-long = c .pre .2 }
 
-from-in : (c : tie.After-slot-of Inv-loop μ-loop) → c .slot-of .result * length (c .before .before .before .before .args .out .now) + c .before .before .before .loop .i < length (c .before .before .before .before .args .ring .now)
-from-in c = in-ring (fit (c .before .before .before .before)) (c .slot-of .result) (c .before .before .before .loop .i) (omega (arith, c .slot-of .ensures)) (c .before .before .loop-test .taken)
+-- places on the way, by name
+abbrev start : tie.After-slot-of Inv-loop μ-loop → tie.Start Inv-loop μ-loop
+start c = c .before .before .before .before
 
-to-in : (c : tie.After-slot-of Inv-loop μ-loop) → c .before .before .before .before .args .x * length (c .before .before .before .before .args .out .now) + c .before .before .before .loop .i < length (c .before .before .before .before .args .ring .now)
-to-in c = in-ring (fit (c .before .before .before .before)) (c .before .before .before .before .args .x) (c .before .before .before .loop .i) (omega arith) (c .before .before .loop-test .taken)
+abbrev at-loop : tie.After-slot-of Inv-loop μ-loop → tie.At-loop Inv-loop μ-loop
+at-loop c = c .before .before .before
+
+from-in : (c : tie.After-slot-of Inv-loop μ-loop) → c .slot-of .result * length (start c .args .out .now) + at-loop c .loop .i < length (start c .args .ring .now)
+from-in c = in-ring (fit (start c)) (c .slot-of .result) (at-loop c .loop .i) (omega (arith, c .slot-of .ensures)) (c .before .before .loop-test .taken)
+
+to-in : (c : tie.After-slot-of Inv-loop μ-loop) → start c .args .x * length (start c .args .out .now) + at-loop c .loop .i < length (start c .args .ring .now)
+to-in c = in-ring (fit (start c)) (start c .args .x) (at-loop c .loop .i) (omega arith) (c .before .before .loop-test .taken)
+
+abbrev start-2 : tie.After-exchange-arg Inv-loop μ-loop → tie.Start Inv-loop μ-loop
+start-2 c = c .before .before .before .before .before
+
+abbrev at-loop-2 : tie.After-ring Inv-loop μ-loop → tie.At-loop Inv-loop μ-loop
+at-loop-2 c = c .before .before .before .before .before .before .before
+
+abbrev past-slot-of : tie.After-exchange Inv-loop μ-loop → tie.After-slot-of Inv-loop μ-loop
+past-slot-of c = c .before .before .before
 
 loop-holds : tie.Need-loop-holds Inv-loop μ-loop
 loop-holds c = record { inside = omega arith; ring-is = paste-zero (c .args .ring .now) (c .args .x * length (c .args .out .now)) (c .args .own .now); out-long = refl; out-is = λ k l. absurd (not-suc-le-zero l) }
 
--- src/lib.rt:69:20
 slot-of-requires : tie.Need-slot-of-requires Inv-loop μ-loop
 unfolding delays
 slot-of-requires c κs = (omega arith, refl)
 
--- src/lib.rt:69:20
 mul-from : tie.Need-mul-from Inv-loop μ-loop
-mul-from c = let w = from-in c in let g = c .before .before .before .before .good .1 .0 .0 in omega arith
+mul-from c = let w = from-in c in let g = start c .good .1 .0 .0 in omega arith
 
--- src/lib.rt:69:20
 add-from : tie.Need-add-from Inv-loop μ-loop
-add-from c = let w = from-in c in let g = c .before .before .before .before .good .1 .0 .0 in omega arith
+add-from c = let w = from-in c in let g = start c .good .1 .0 .0 in omega arith
 
--- src/lib.rt:70:45
 mul-exchange : tie.Need-mul-exchange Inv-loop μ-loop
-mul-exchange c = let w = to-in (c .before) in let g = c .before .before .before .before .before .good .1 .0 .0 in omega arith
+mul-exchange c = let w = to-in (c .before) in let g = start-2 c .good .1 .0 .0 in omega arith
 
--- src/lib.rt:70:45
 add-exchange : tie.Need-add-exchange Inv-loop μ-loop
-add-exchange c = let w = to-in (c .before) in let g = c .before .before .before .before .before .good .1 .0 .0 in omega arith
+add-exchange c = let w = to-in (c .before) in let g = start-2 c .good .1 .0 .0 in omega arith
 
--- src/lib.rt:70:56
 shared-slice-copy-out-exchange : tie.Need-shared-slice-copy-out-exchange Inv-loop μ-loop
 shared-slice-copy-out-exchange c = omega arith
 
--- src/lib.rt:70:18
 exchange-requires : tie.Need-exchange-requires Inv-loop μ-loop
 exchange-requires c κs =
     let t = c .before .before in
-    let same = ring-same (fit (t .before .before .before .before)) (t .before .before .before .loop .inv) in
+    let same = ring-same (fit (start t)) (at-loop t .loop .inv) in
     let f = from-in t in
     let g = to-in t in
     (omega (arith, f, same), omega (arith, g, same))
 
--- src/lib.rt:70:9
 slice-set-from-out : tie.Need-slice-set-from-out Inv-loop μ-loop
-slice-set-from-out c = omega (arith, c .before .before .before .before .before .before .before .loop .inv .out-long)
+slice-set-from-out c = omega (arith, at-loop-2 c .loop .inv .out-long)
 
--- src/lib.rt:71:9
 add-i : tie.Need-add-i Inv-loop μ-loop
 add-i c = omega arith
 
--- src/lib.rt:68:5
 loop-less : tie.Need-loop-less Inv-loop μ-loop
 loop-less c = omega arith
 
--- src/lib.rt:68:5
 loop-again : tie.Need-loop-again Inv-loop μ-loop
 loop-again c =
     let e = c .before in
-    let t = e .before .before .before in
-    let start = t .before .before .before .before in
-    let i = t .before .before .before .loop .i in
+    let t = past-slot-of e in
+    let start = start t in
+    let i = at-loop t .loop .i in
     let x = start .args .x in
     let n = length (start .args .out .now) in
-    let ring = t .before .before .before .loop .ring in
+    let ring = at-loop t .loop .ring in
     let from : t .slot-of .result * n + i ≡ slotOf x i * n + i = ap (λ (k : ℕ). k * n + i) (t .slot-of .ensures) in
     let v =
     again (fit start) (t .before .before .loop-test .taken) (back w8 (e .exchange .ok) (e .exchange .ensures .0 ∙ ap (at ring) from))
-    (back w8 (e .before .exchange-arg2 .given) refl) (t .before .before .before .loop .inv)
+    (back w8 (e .before .exchange-arg2 .given) refl) (at-loop t .loop .inv)
     in
     rw (e .exchange .ensures .1) v
 
--- src/lib.rt:61:1
 same-length : tie.Need-same-length Inv-loop μ-loop
 same-length c = ring-same (fit (c .before .before)) (c .before .loop .inv)
 
--- src/lib.rt:61:1
 same-length-2 : tie.Need-same-length-2 Inv-loop μ-loop
 same-length-2 c = c .before .loop .inv .out-long
 
--- src/lib.rt:61:1
 returns : tie.Need-returns Inv-loop μ-loop
 returns c = done (fit (c .before .before)) (c .loop-test .left) (c .before .loop .inv)
 

@@ -4,7 +4,7 @@ use borrow.Author.Needs.{needs}
 use mathlib.Core.Path.{_≡_, sym, _∙_}
 use native.Mathlib.Omega.{arith}
 use lib.ListN.{length}
-use Rattle.msc_handler.specs.Promises.{Buffers, buffers, refusalIn}
+use Rattle.msc_handler.specs.Promises.{Buffers, buffers, lengthsOf, refusalIn}
 use Rattle.msc_handler.specs.Ring.{stored}
 use Rattle.msc_state.specs.States.{stateAfter}
 use Rattle.msc_handler.proofs.Feeding.{feed-refused, feed-gathers, feed-completes}
@@ -23,8 +23,8 @@ given s = buffers (s .args .cif .now) (s .args .ring .now) (s .args .deinterleav
 none : (c : tie.Else1) → refusalIn (start c .args .state) (start c .args .soft .now) (given (start c)) ≡ 0
 none c = sym (c .before .feed-refusal .ensures) ∙ c .if1 .left
 
-sound : (c : tie.Else1) → Accepted (start c .args .state) (length (start c .args .soft .now)) (length (start c .args .cif .now)) (length (start c .args .ring .now)) (length (start c .args .deinterleaved .now)) (length (start c .args .depunctured .now)) (length (start c .args .words .now)) (length (start c .args .bits .now)) (length (start c .args .frame .now))
-sound c = accepted _ _ _ _ _ _ _ _ _ (none c)
+sound : (c : tie.Else1) → Accepted (start c .args .state) (length (start c .args .soft .now)) (lengthsOf (given (start c)))
+sound c = accepted _ _ _ (none c)
 
 -- once the symbol is stored
 abbrev entry : tie.After-store → tie.Else1
@@ -37,12 +37,28 @@ kept : (c : tie.After-store) → c .store .last .1 .0 ≡ stored (start (entry c
 unfolding stored
 kept c = c .store .ensures
 
+-- places on the way, by name
+abbrev start-2 : tie.Then1 → tie.Start
+start-2 c = c .before .before .before .before .before
+
+abbrev past-store : tie.After-process-cif-arg7 → tie.After-store
+past-store c = c .before .before .before .before .before .before .before .before .before .before
+
+abbrev past-store-2 : tie.After-slice-known6 → tie.After-store
+past-store-2 c = c .before .before .before .before .before .before .before .before .before .before .before .before .before .before .before .before .before .before .before .before
+
+abbrev past-process-cif : tie.After-slice-known6 → tie.After-process-cif
+past-process-cif c = c .before .before .before .before .before .before .before .before .before
+
+abbrev else2 : tie.After-process-cif → tie.Else2
+else2 c = c .before .before .before .before .before .before .before .before .before
+
 feed-refusal-requires : tie.Need-feed-refusal-requires
 feed-refusal-requires c κs = search needs
 
 returns : tie.Need-returns
 returns c =
-    let s = c .before .before .before .before .before in
+    let s = start-2 c in
     feed-refused (s .args .state) (s .args .soft .now) (given s) (c .before .feed-refusal .ensures) (c .if1 .taken)
 
 after-symbol-requires : tie.Need-after-symbol-requires
@@ -57,7 +73,7 @@ mul-from c = search needs
 store-requires : tie.Need-store-requires
 store-requires c κs =
     let a = sound (c .before .before) in
-    (a .symbol, omega (arith, a .state .symbols, a .room .cif-long))
+    (a .symbol, omega (arith, a .state .symbols, a .lengths .cif-long))
 
 same-length : tie.Need-same-length
 same-length c = c .before .before .store .kept .1 .0
@@ -70,45 +86,45 @@ returns-2 c =
 
 process-cif-requires : tie.Need-process-cif-requires
 process-cif-requires c κs =
-    let t = c .before .before .before .before .before .before .before .before .before .before in
+    let t = past-store c in
     let a = sound (entry t) in
     record {
       index = omega (arith, a .state .index);
       none = a .state .description;
-      cif-long = omega (arith, a .room .cif-long, t .store .kept .1 .0);
-      ring-long = a .room .ring-long;
-      read-long = a .room .read-long;
-      soft-long = a .room .soft-long;
-      words-long = a .room .words-long;
-      bits-long = a .room .bits-long;
-      frame-long = a .room .frame-long;
+      cif-long = omega (arith, a .lengths .cif-long, t .store .kept .1 .0);
+      ring-long = a .lengths .ring-long;
+      read-long = a .lengths .read-long;
+      soft-long = a .lengths .soft-long;
+      words-long = a .lengths .words-long;
+      bits-long = a .lengths .bits-long;
+      frame-long = a .lengths .frame-long;
     }
 
 same-length-2 : tie.Need-same-length-2
-same-length-2 c = c .before .before .before .before .before .before .before .before .before .before .before .before .before .before .before .before .before .before .before .before .store .kept .1 .0
+same-length-2 c = past-store-2 c .store .kept .1 .0
 
 same-length-3 : tie.Need-same-length-3
-same-length-3 c = c .before .before .before .before .before .before .before .before .before .process-cif .kept .1 .1 .0
+same-length-3 c = past-process-cif c .process-cif .kept .1 .1 .0
 
 same-length-4 : tie.Need-same-length-4
-same-length-4 c = c .before .before .before .before .before .before .before .before .before .process-cif .kept .1 .1 .1 .0
+same-length-4 c = past-process-cif c .process-cif .kept .1 .1 .1 .0
 
 same-length-5 : tie.Need-same-length-5
-same-length-5 c = c .before .before .before .before .before .before .before .before .before .process-cif .kept .1 .1 .1 .1 .0
+same-length-5 c = past-process-cif c .process-cif .kept .1 .1 .1 .1 .0
 
 same-length-6 : tie.Need-same-length-6
-same-length-6 c = c .before .before .before .before .before .before .before .before .before .process-cif .kept .1 .1 .1 .1 .1 .0
+same-length-6 c = past-process-cif c .process-cif .kept .1 .1 .1 .1 .1 .0
 
 same-length-7 : tie.Need-same-length-7
-same-length-7 c = c .before .before .before .before .before .before .before .before .before .process-cif .kept .1 .1 .1 .1 .1 .1 .0
+same-length-7 c = past-process-cif c .process-cif .kept .1 .1 .1 .1 .1 .1 .0
 
 same-length-8 : tie.Need-same-length-8
-same-length-8 c = c .before .before .before .before .before .before .before .before .before .process-cif .kept .1 .1 .1 .1 .1 .1 .1 .0
+same-length-8 c = past-process-cif c .process-cif .kept .1 .1 .1 .1 .1 .1 .1 .0
 
 returns-3 : tie.Need-returns-3
 returns-3 c =
-    let p = c .before .before .before .before .before .before .before .before .before in
-    let e = p .before .before .before .before .before .before .before .before .before in
+    let p = past-process-cif c in
+    let e = else2 p in
     let t = e .before .before in
     let s = start (entry t) in
     feed-completes (s .args .state) (s .args .soft .now) (given s) (none (entry t)) (moved t) (kept t) (e .if2 .left) (p .process-cif .ensures)

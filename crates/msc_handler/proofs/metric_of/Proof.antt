@@ -7,19 +7,15 @@ use borrow.Author.Needs.{needs}
 use Rattle.msc_handler.proofs.metric_of.Statement.{statement}
 use Rattle.msc_handler.proofs.metric_of.Tie as tie
 
--- src/lib.rt:115:24
 enum-known-decoding : tie.Need-enum-known-decoding
 enum-known-decoding c = search needs
 
--- src/lib.rt:116:33
 enum-told : tie.Need-enum-told
 enum-told c = search needs
 
--- src/lib.rt:111:1
 returns : tie.Need-returns
 returns c = toZ-ofZ (search needs) ∙ sym (ap metricOf (c .before .before .decoding .given .1))
 
--- src/lib.rt:111:1
 returns-2 : tie.Need-returns-2
 returns-2 c = sym (ap metricOf (c .enum-told .given .1))
 

@@ -7,19 +7,15 @@ use borrow.Author.Needs.{needs}
 use Rattle.msc_handler.proofs.percent_in.Statement.{statement}
 use Rattle.msc_handler.proofs.percent_in.Tie as tie
 
--- src/lib.rt:124:22
 enum-known-measured : tie.Need-enum-known-measured
 enum-known-measured c = search needs
 
--- src/lib.rt:125:33
 enum-told : tie.Need-enum-told
 enum-told c = search needs
 
--- src/lib.rt:120:1
 returns : tie.Need-returns
 returns c = search needs
 
--- src/lib.rt:120:1
 returns-2 : tie.Need-returns-2
 unfolding ofBits
 returns-2 c = sym (ap percentIn (c .enum-told .given .1))

@@ -15,25 +15,47 @@ start c = c .before .before .before .before .before .before
 abbrev given : tie.Start → Buffers
 given s = buffers (s .args .cif .now) (s .args .ring .now) (s .args .deinterleaved .now) (s .args .depunctured .now) (s .args .words .now) (s .args .bits .now) (s .args .frame .now)
 
+-- places on the way, by name
+abbrev start-2 : tie.After-rotate-arg2 → tie.Start
+start-2 c = c .before .before .before .before .before
+
+abbrev past-rotate : tie.Then1 → tie.After-rotate
+past-rotate c = c .before .before .before .before
+
+abbrev past-rotate-2 : tie.After-decode-frame-arg5 → tie.After-rotate
+past-rotate-2 c = c .before .before .before .before .before .before .before .before .before .before
+
+abbrev past-rotate-3 : tie.After-struct-known2 → tie.After-rotate
+past-rotate-3 c = c .before .before .before .before .before .before .before .before .before .before .before .before .before .before .before .before .before .before .before
+
+abbrev past-decode-frame : tie.After-struct-known2 → tie.After-decode-frame
+past-decode-frame c = c .before .before .before .before .before .before .before .before
+
+abbrev else1 : tie.After-decode-frame → tie.Else1
+else1 c = c .before .before .before .before .before .before .before
+
+abbrev past-rotate-4 : tie.Else1 → tie.After-rotate
+past-rotate-4 c = c .before .before .before .before
+
 rotate-requires : tie.Need-rotate-requires
 rotate-requires c κs =
-    let s = c .before .before .before .before .before in
+    let s = start-2 c in
     record { index = s .pre .index; inside = accepted-place _ (s .pre .none); cif-long = s .pre .cif-long; ring-long = s .pre .ring-long; read-long = s .pre .read-long }
 
 same-length : tie.Need-same-length
-same-length c = c .before .before .before .before .rotate .kept .1 .1 .0
+same-length c = past-rotate c .rotate .kept .1 .1 .0
 
 same-length-2 : tie.Need-same-length-2
-same-length-2 c = c .before .before .before .before .rotate .kept .1 .1 .1 .0
+same-length-2 c = past-rotate c .rotate .kept .1 .1 .1 .0
 
 returns : tie.Need-returns
 returns c =
-    let r = c .before .before .before .before in
+    let r = past-rotate c in
     cif-waits (start r .args .channel) (given (start r)) (r .rotate .ensures .0) (r .rotate .ensures .1) (c .if1 .taken)
 
 decode-frame-requires : tie.Need-decode-frame-requires
 decode-frame-requires c κs =
-    let r = c .before .before .before .before .before .before .before .before .before .before in
+    let r = past-rotate-2 c in
     let s = start r in
     record {
       none = s .pre .none;
@@ -51,28 +73,28 @@ mul-t28 : tie.Need-mul-t28
 mul-t28 c = search needs
 
 same-length-3 : tie.Need-same-length-3
-same-length-3 c = c .before .before .before .before .before .before .before .before .before .before .before .before .before .before .before .before .before .before .before .rotate .kept .1 .1 .0
+same-length-3 c = past-rotate-3 c .rotate .kept .1 .1 .0
 
 same-length-4 : tie.Need-same-length-4
-same-length-4 c = c .before .before .before .before .before .before .before .before .before .before .before .before .before .before .before .before .before .before .before .rotate .kept .1 .1 .1 .0
+same-length-4 c = past-rotate-3 c .rotate .kept .1 .1 .1 .0
 
 same-length-5 : tie.Need-same-length-5
-same-length-5 c = c .before .before .before .before .before .before .before .before .decode-frame .kept .1 .1 .0
+same-length-5 c = past-decode-frame c .decode-frame .kept .1 .1 .0
 
 same-length-6 : tie.Need-same-length-6
-same-length-6 c = c .before .before .before .before .before .before .before .before .decode-frame .kept .1 .1 .1 .0
+same-length-6 c = past-decode-frame c .decode-frame .kept .1 .1 .1 .0
 
 same-length-7 : tie.Need-same-length-7
-same-length-7 c = c .before .before .before .before .before .before .before .before .decode-frame .kept .1 .1 .1 .1 .0
+same-length-7 c = past-decode-frame c .decode-frame .kept .1 .1 .1 .1 .0
 
 same-length-8 : tie.Need-same-length-8
-same-length-8 c = c .before .before .before .before .before .before .before .before .decode-frame .kept .1 .1 .1 .1 .1 .0
+same-length-8 c = past-decode-frame c .decode-frame .kept .1 .1 .1 .1 .1 .0
 
 returns-2 : tie.Need-returns-2
 returns-2 c =
-    let d = c .before .before .before .before .before .before .before .before in
-    let e = d .before .before .before .before .before .before .before in
-    let r = e .before .before .before .before in
+    let d = past-decode-frame c in
+    let e = else1 d in
+    let r = past-rotate-4 e in
     cif-frames (start r .args .channel) (given (start r)) (r .rotate .ensures .0) (r .rotate .ensures .1) (e .if1 .left) (d .decode-frame .ensures .0) (d .decode-frame .ensures .1)
 
 pub process-cif-spec : {M : Type 1} → statement M

@@ -32,6 +32,10 @@ part-long c =
     let cif = start c .args .cif .now in
     length-take-le (64 * d .«sub_size») (drop (64 * d .«start_addr») cif) (omega (arith, length-drop (64 * d .«start_addr») cif, start c .pre .inside, start c .pre .cif-long))
 
+-- places on the way, by name
+abbrev past-stretch : tie.After-deinterleave → tie.After-stretch
+past-stretch c = c .before .before .before
+
 cast-x : tie.Need-cast-x
 cast-x c = search needs
 
@@ -76,7 +80,7 @@ same-length-2 c = search needs
 returns : tie.Need-returns
 returns c =
     let e = c .before .before in
-    let t = e .before .before .before in
+    let t = past-stretch e in
     let s = start t in
     let ch = s .args .channel in
     let n = 64 * ch .description .«sub_size» in

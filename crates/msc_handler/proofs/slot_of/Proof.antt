@@ -10,19 +10,15 @@ use borrow.Author.Needs.{needs}
 use Rattle.msc_handler.proofs.slot_of.Statement.{statement}
 use Rattle.msc_handler.proofs.slot_of.Tie as tie
 
--- src/lib.rt:57:10
 mul-result : tie.Need-mul-result
 mul-result c = search needs
 
--- src/lib.rt:57:10
 element-copy-out-result : tie.Need-element-copy-out-result
 element-copy-out-result c = search needs
 
--- src/lib.rt:57:6
 add-result : tie.Need-add-result
 add-result c = omega (arith, ap (λ (m : List ℕ). getD m (c .before .args .i % 16) 0) (c .before .pre .1), delay-lt (c .before .args .i))
 
--- src/lib.rt:52:1
 returns : tie.Need-returns
 returns c = ap (λ (m : List ℕ). (c .before .args .x + getD m (c .before .args .i % 16) 0) % 16) (c .before .pre .1)
 

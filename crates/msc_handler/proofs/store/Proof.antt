@@ -31,6 +31,10 @@ again : {soft cif₀ : List ℤ} {from : ℕ} {cif : List ℤ} {i : ℕ} {x : �
 again {soft} {cif₀} {from} {cif} {i} {x} s f h e v =
     record { few = omega arith; is = ap (λ (l : List ℤ). set l (from + i) x) (v .is) ∙ pasted-next (pos 0) cif₀ from soft i x (omega arith) (omega arith) e }
 
+-- places on the way, by name
+abbrev start : tie.After-cif Inv-loop μ-loop → tie.Start Inv-loop μ-loop
+start c = c .before .before .before
+
 loop-holds : tie.Need-loop-holds Inv-loop μ-loop
 loop-holds c = record { few = omega arith; is = paste-zero (c .args .cif .now) (c .args .from) (c .args .soft .now) }
 
@@ -42,7 +46,7 @@ add-t8 c = omega arith
 
 slice-set-from-cif : tie.Need-slice-set-from-cif Inv-loop μ-loop
 slice-set-from-cif c =
-    let start = c .before .before .before in
+    let start = start c in
     omega (arith, same (start .pre .0) (start .pre .1) (c .before .before .loop .inv))
 
 add-i : tie.Need-add-i Inv-loop μ-loop
@@ -53,7 +57,7 @@ loop-less c = omega arith
 
 loop-again : tie.Need-loop-again Inv-loop μ-loop
 loop-again c =
-    let start = c .before .before .before in
+    let start = start c in
     again (start .pre .0) (start .pre .1) (c .before .loop-test .taken) (back w8 (c .cif .given) refl) (c .before .before .loop .inv)
 
 same-length : tie.Need-same-length Inv-loop μ-loop

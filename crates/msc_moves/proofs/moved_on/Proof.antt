@@ -9,6 +9,10 @@ use Rattle.msc_moves.proofs.States.{due-is}
 use Rattle.msc_moves.proofs.moved_on.Statement.{statement}
 use Rattle.msc_moves.proofs.moved_on.Tie as tie
 
+-- places on the way, by name
+abbrev past-counted : tie.After-frames-after → tie.After-counted
+past-counted c = c .before .before .before
+
 counted-requires : tie.Need-counted-requires
 counted-requires c κs = search needs
 
@@ -21,7 +25,7 @@ frames-after-requires c κs = search needs
 returns : tie.Need-returns
 unfolding channelAfter
 returns c =
-    let f = c .before .before .before in
+    let f = past-counted c in
     let ch = f .before .args .channel in
     let frames : c .frames-after .result ≡ cond (due ch) (min mostFrames (ch .«frames_decoded» + 1)) (ch .«frames_decoded») =
     c .frames-after .ensures ∙ ap (λ (b : Bool). cond b (min mostFrames (ch .«frames_decoded» + 1)) (ch .«frames_decoded»)) (due-is ch (f .counted .ensures))

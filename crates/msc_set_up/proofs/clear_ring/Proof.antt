@@ -12,6 +12,10 @@ use Rattle.msc_set_up.specs.Promises.{cleared}
 use Rattle.msc_set_up.proofs.clear_ring.Statement.{statement}
 use Rattle.msc_set_up.proofs.clear_ring.Tie as tie
 
+-- places on the way, by name
+abbrev start : tie.After-ring → tie.Start
+start c = c .before .before .before .before
+
 cast-n : tie.Need-cast-n
 cast-n c = search needs
 
@@ -33,7 +37,7 @@ same-length c = search needs
 returns : tie.Need-returns
 unfolding cleared
 returns c =
-    let s = c .before .before .before .before in
+    let s = start c in
     let n = 1024 * s .args .d .«sub_size» in
     ap (λ (r : List ℤ). r ++ drop n (s .args .ring .now)) (c .before .clear .ensures ∙ ap (λ (k : ℕ). replicate k (pos 0)) (length-take-le n (s .args .ring .now) (omega arith)))
 

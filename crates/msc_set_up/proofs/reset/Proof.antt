@@ -7,6 +7,13 @@ use Rattle.msc_state.proofs.Refusals.{reset-room}
 use Rattle.msc_set_up.proofs.reset.Statement.{statement}
 use Rattle.msc_set_up.proofs.reset.Tie as tie
 
+-- places on the way, by name
+abbrev start : tie.After-clear-ring-arg → tie.Start
+start c = c .before .before .before .before .before
+
+abbrev past-reset-refusal : tie.After-clear-ring → tie.After-reset-refusal
+past-reset-refusal c = c .before .before .before
+
 reset-refusal-requires : tie.Need-reset-refusal-requires
 reset-refusal-requires c κs = search needs
 
@@ -15,7 +22,7 @@ returns c = prepared-refused (c .before .reset-refusal .ensures) (c .if1 .taken)
 
 clear-ring-requires : tie.Need-clear-ring-requires
 clear-ring-requires c κs =
-    let s = c .before .before .before .before .before in
+    let s = start c in
     reset-room (s .args .state) _ (sym (c .before .before .reset-refusal .ensures) ∙ c .before .if1 .left)
 
 started-requires : tie.Need-started-requires
@@ -27,7 +34,7 @@ same-length c = search needs
 returns-2 : tie.Need-returns-2
 returns-2 c =
     let e = c .before .before in
-    let r = e .before .before .before in
+    let r = past-reset-refusal e in
     prepared-given (sym (r .reset-refusal .ensures) ∙ e .before .before .if1 .left) (c .started .ensures) (e .clear-ring .ensures)
 
 pub reset-spec : {M : Type 1} → statement M

@@ -8,6 +8,13 @@ use Rattle.msc_state.proofs.Refusals.{set-up-room}
 use Rattle.msc_set_up.proofs.set_up.Statement.{statement}
 use Rattle.msc_set_up.proofs.set_up.Tie as tie
 
+-- places on the way, by name
+abbrev start : tie.After-clear-ring-arg → tie.Start
+start c = c .before .before .before
+
+abbrev past-set-up-refusal : tie.After-clear-ring → tie.After-set-up-refusal
+past-set-up-refusal c = c .before .before .before
+
 set-up-refusal-requires : tie.Need-set-up-refusal-requires
 set-up-refusal-requires c κs = search needs
 
@@ -24,7 +31,7 @@ returns c =
 
 clear-ring-requires : tie.Need-clear-ring-requires
 clear-ring-requires c κs =
-    let s = c .before .before .before in
+    let s = start c in
     set-up-room (s .args .d) _ (sym (c .before .before .set-up-refusal .ensures) ∙ c .before .if1 .left)
 
 started-requires-2 : tie.Need-started-requires-2
@@ -36,7 +43,7 @@ same-length c = search needs
 returns-2 : tie.Need-returns-2
 returns-2 c =
     let e = c .before .before in
-    let r = e .before .before .before in
+    let r = past-set-up-refusal e in
     prepared-given (sym (r .set-up-refusal .ensures) ∙ e .before .before .if1 .left) (c .started2 .ensures) (e .clear-ring .ensures)
 
 pub set-up-spec : {M : Type 1} → statement M

@@ -8,6 +8,10 @@ use Rattle.refusal.proofs.Laws.{given-number, refused-number}
 use Rattle.msc_state.proofs.description_refusal.Statement.{statement}
 use Rattle.msc_state.proofs.description_refusal.Tie as tie
 
+-- places on the way, by name
+abbrev past-judge : tie.After-known-told → tie.After-judge
+past-judge c = c .before .before .before
+
 judge-requires : tie.Need-judge-requires
 judge-requires c κs = search needs
 
@@ -24,7 +28,7 @@ returns c =
 
 returns-2 : tie.Need-returns-2
 returns-2 c =
-    let j = c .before .before .before in
+    let j = past-judge c in
     sym (refused-number (refusalOf (j .before .args .d)) tt _ (ap judgedAs (sym (c .before .judged .given .1)) ∙ j .judge .ensures .answer))
 
 pub description-refusal-spec : {M : Type 1} → statement M

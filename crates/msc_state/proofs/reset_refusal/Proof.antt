@@ -6,9 +6,16 @@ use mathlib.Core.List.{[], _∷_}
 use lib.Dec.{ltb}
 use Rattle.refusal.specs.Outcome.{check}
 use Rattle.msc_state.specs.States.{badState, ringRoom, resetRefusal}
-use Rattle.msc_state.proofs.Refusals.{checked}
+use Rattle.refusal.proofs.Checks.{checked}
 use Rattle.msc_state.proofs.reset_refusal.Statement.{statement}
 use Rattle.msc_state.proofs.reset_refusal.Tie as tie
+
+-- places on the way, by name
+abbrev past-is-bad : tie.After-first2 → tie.After-is-bad
+past-is-bad c = c .before .before .before
+
+abbrev start : tie.After-first2 → tie.Start
+start c = c .before .before .before .before .before .before
 
 is-bad-requires : tie.Need-is-bad-requires
 is-bad-requires c κs = search needs
@@ -28,8 +35,8 @@ first-requires-2 c κs = search needs
 returns : tie.Need-returns
 unfolding resetRefusal
 returns c =
-    let b = c .before .before .before in
-    let a = c .before .before .before .before .before .before .args in
+    let b = past-is-bad c in
+    let a = start c .args in
     let short = ltb (a .ring) (ringRoom (a .state .channel .description)) in
     checked 9 (badState (a .state)) (check 8 short ∷ []) (c .first2 .ensures) (b .is-bad .ensures) (checked 7 short [] (c .before .first .ensures) refl refl)
 

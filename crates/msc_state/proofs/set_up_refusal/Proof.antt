@@ -7,9 +7,16 @@ use lib.Dec.{ltb}
 use Rattle.refusal.specs.Outcome.{check}
 use borrow.Author.Tests.{lt-ltb, le-ltb}
 use Rattle.msc_state.specs.States.{ringRoom, setUpRefusal}
-use Rattle.msc_state.proofs.Refusals.{first-nonzero}
+use Rattle.refusal.proofs.Checks.{first-nonzero}
 use Rattle.msc_state.proofs.set_up_refusal.Statement.{statement}
 use Rattle.msc_state.proofs.set_up_refusal.Tie as tie
+
+-- places on the way, by name
+abbrev past-description-refusal : tie.Then2 → tie.After-description-refusal
+past-description-refusal c = c .before .before .before
+
+abbrev past-description-refusal-2 : tie.Else2 → tie.After-description-refusal
+past-description-refusal-2 c = c .before .before .before
 
 description-refusal-requires : tie.Need-description-refusal-requires
 description-refusal-requires c κs = search needs
@@ -26,11 +33,11 @@ mul-if2 c = search needs
 
 returns-2 : tie.Need-returns-2
 unfolding setUpRefusal
-returns-2 c = rw (sym (c .before .before .before .description-refusal .ensures) ∙ c .before .before .if1 .left, lt-ltb _ _ (c .if2 .taken)) refl
+returns-2 c = rw (sym (past-description-refusal c .description-refusal .ensures) ∙ c .before .before .if1 .left, lt-ltb _ _ (c .if2 .taken)) refl
 
 returns-3 : tie.Need-returns-3
 unfolding setUpRefusal
-returns-3 c = rw (sym (c .before .before .before .description-refusal .ensures) ∙ c .before .before .if1 .left, le-ltb _ _ (c .if2 .left)) refl
+returns-3 c = rw (sym (past-description-refusal-2 c .description-refusal .ensures) ∙ c .before .before .if1 .left, le-ltb _ _ (c .if2 .left)) refl
 
 pub set-up-refusal-spec : {M : Type 1} → statement M
 set-up-refusal-spec =

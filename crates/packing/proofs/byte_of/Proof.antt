@@ -30,8 +30,15 @@ shared-slice-read-as-bit c = omega arith
 as-bit-requires : tie.Need-as-bit-requires Inv-loop μ-loop
 as-bit-requires c κs = tt
 
+-- places of the walk, by name
+abbrev atLoop : tie.After-as-bit Inv-loop μ-loop → tie.At-loop Inv-loop μ-loop
+atLoop c = c .before .before .before
+
+abbrev entry : tie.After-as-bit Inv-loop μ-loop → tie.Start Inv-loop μ-loop
+entry c = c .before .before .before .before .before
+
 add-byte : tie.Need-add-byte Inv-loop μ-loop
-add-byte c = omega (arith, number-small (omega arith) (c .before .before .before .loop .inv), c .as-bit .ensures, as-bit-lt (getD (c .before .before .before .before .before .args .bits .now) (c .before .before .before .loop .i) 0))
+add-byte c = omega (arith, number-small (omega arith) (atLoop c .loop .inv), c .as-bit .ensures, as-bit-lt (getD (entry c .args .bits .now) (atLoop c .loop .i) 0))
 
 add-i : tie.Need-add-i Inv-loop μ-loop
 add-i c = omega arith
@@ -40,7 +47,7 @@ loop-less : tie.Need-loop-less Inv-loop μ-loop
 loop-less c = omega arith
 
 loop-again : tie.Need-loop-again Inv-loop μ-loop
-loop-again c = folded-next 0 (λ (n v : ℕ). 2 * n + asBit v) number-snoc (omega arith) (omega (arith, c .as-bit .ensures)) (c .before .before .before .loop .inv)
+loop-again c = folded-next 0 (λ (n v : ℕ). 2 * n + asBit v) number-snoc (omega arith) (omega (arith, c .as-bit .ensures)) (atLoop c .loop .inv)
 
 returns : tie.Need-returns Inv-loop μ-loop
 returns c = folded-all 0 (omega arith) (c .before .loop .inv)

@@ -69,17 +69,27 @@ add-j c = omega arith
 loop-less : tie.Need-loop-less Inv-loop μ-loop
 loop-less c = simp length-set (omega arith)
 
+-- places of the walk, by name
+abbrev atLoop : tie.After-byte-of Inv-loop μ-loop → tie.At-loop Inv-loop μ-loop
+atLoop c = c .before .before .before
+
+abbrev entryFromAtLoop : tie.At-loop Inv-loop μ-loop → tie.Start Inv-loop μ-loop
+entryFromAtLoop c = c .before .before .before
+
+abbrev entryFromLoop : tie.After-loop Inv-loop μ-loop → tie.Start Inv-loop μ-loop
+entryFromLoop c = c .before .before .before .before
+
 loop-again : tie.Need-loop-again Inv-loop μ-loop
 loop-again c =
-    let turn = c .before .before .before in
-    let bits = turn .before .before .before .args .bits .now in
-    step (turn .before .before .before .pre) (omega arith) (c .byte-of .ensures ∙ ap (λ (n : ℕ). number (take n (drop (8 * turn .loop .j) bits))) (eight (turn .loop .j))) (turn .loop .inv)
+    let turn = atLoop c in
+    let bits = entryFromAtLoop turn .args .bits .now in
+    step (entryFromAtLoop turn .pre) (omega arith) (c .byte-of .ensures ∙ ap (λ (n : ℕ). number (take n (drop (8 * turn .loop .j) bits))) (eight (turn .loop .j))) (turn .loop .inv)
 
 same-length : tie.Need-same-length Inv-loop μ-loop
 same-length c = c .before .loop .inv .long
 
 returns : tie.Need-returns Inv-loop μ-loop
-returns c = whole (c .before .before .before .before .pre) (omega arith) (c .before .loop .inv)
+returns c = whole (entryFromLoop c .pre) (omega arith) (c .before .loop .inv)
 
 pub fill-spec : {M : Type 1} → statement M
 fill-spec =

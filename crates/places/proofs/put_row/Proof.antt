@@ -1,14 +1,20 @@
--- `places::put_row` meets its contract: eight numbers in the first eight places, or refusal 8.
+-- `places::put_row` meets its contract: the number, refusal 8, or eight numbers in the first eight places.
 -- Assumes nothing.
+use mathlib.Core.List.{[], _∷_}
 use native.Mathlib.Omega.{arith}
-use lib.ListN.{length-set}
-use Rattle.places.proofs.Places.{wrote-nothing, wrote-all, eight-set}
+use lib.ListN.{length-set, getD}
+use Rattle.laws.proofs.Lists.{sets-front}
+use Rattle.places.specs.Code.{rowIn}
+use Rattle.places.proofs.Places.{wrote-first, wrote-short, wrote-all}
 use borrow.Author.Needs.{needs}
 use Rattle.places.proofs.put_row.Statement.{statement}
 use Rattle.places.proofs.put_row.Tie as tie
 
 returns : tie.Need-returns
-returns c = wrote-nothing 8 _ _ (c .if1 .taken)
+returns c = wrote-first _ 8 _ _ (c .if1 .taken)
+
+returns-2 : tie.Need-returns-2
+returns-2 c = wrote-short _ 8 _ _ (c .before .if1 .left) (c .if2 .taken)
 
 array-read-row : tie.Need-array-read-row
 array-read-row c = search needs
@@ -61,14 +67,18 @@ slice-write-row-8 c = simp length-set (omega arith)
 same-length : tie.Need-same-length
 same-length c = simp length-set
 
-returns-2 : tie.Need-returns-2
-returns-2 c = wrote-all 8 _ _ _ (c .before .before .if1 .left) (eight-set _ _ _ _ _ _ _ _ (c .before .before .before .args .row .now) (c .before .before .if1 .left))
+returns-3 : tie.Need-returns-3
+returns-3 c =
+    let e = c .before .before in
+    let a = e .before .before .args in
+    wrote-all _ 8 _ _ _ (e .before .if1 .left) (e .if2 .left) (sets-front (rowIn (a .p)) (a .row .now) (e .if2 .left))
 
 pub put-row-spec : {M : Type 1} → statement M
 put-row-spec =
     tie.close
     (tie.spec
     returns
+    returns-2
     array-read-row
     slice-write-row
     array-read-row-2
@@ -86,4 +96,4 @@ put-row-spec =
     array-read-row-8
     slice-write-row-8
     same-length
-    returns-2)
+    returns-3)

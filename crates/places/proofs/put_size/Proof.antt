@@ -1,12 +1,17 @@
--- `places::put_size` meets its contract: one number in the first place, or refusal 8.
+-- `places::put_size` meets its contract: the number, refusal 8, or the size in the first place.
 -- Assumes nothing.
-use Rattle.places.proofs.Places.{wrote-nothing, wrote-all, first-set}
+use mathlib.Core.List.{[], _∷_}
+use Rattle.laws.proofs.Lists.{sets-front}
+use Rattle.places.proofs.Places.{wrote-first, wrote-short, wrote-all}
 use borrow.Author.Needs.{needs}
 use Rattle.places.proofs.put_size.Statement.{statement}
 use Rattle.places.proofs.put_size.Tie as tie
 
 returns : tie.Need-returns
-returns c = wrote-nothing 1 _ _ (c .if1 .taken)
+returns c = wrote-first _ 1 _ _ (c .if1 .taken)
+
+returns-2 : tie.Need-returns-2
+returns-2 c = wrote-short _ 1 _ _ (c .before .if1 .left) (c .if2 .taken)
 
 slice-write-size : tie.Need-slice-write-size
 slice-write-size c = search needs
@@ -14,8 +19,10 @@ slice-write-size c = search needs
 same-length : tie.Need-same-length
 same-length c = search needs
 
-returns-2 : tie.Need-returns-2
-returns-2 c = wrote-all 1 _ _ _ (c .if1 .left) (first-set _ (c .before .args .size .now) (c .if1 .left))
+returns-3 : tie.Need-returns-3
+returns-3 c =
+    let e = c .before in
+    wrote-all _ 1 _ _ _ (e .if1 .left) (c .if2 .left) (sets-front (e .before .args .n ∷ []) (e .before .args .size .now) (c .if2 .left))
 
 pub put-size-spec : {M : Type 1} → statement M
-put-size-spec = tie.close (tie.spec returns slice-write-size same-length returns-2)
+put-size-spec = tie.close (tie.spec returns returns-2 slice-write-size same-length returns-3)

@@ -7,7 +7,8 @@ use lib.Dec.{lit<, T, ltb}
 use lib.ListN.{getD}
 use borrow.Author.Needs.{needs}
 use Rattle.en300401.specs.Uep.{uepTable, noRow}
-use Rattle.profiles.specs.Rows.{numbers, profileRow}
+use Rattle.profiles.specs.Code.{numbers}
+use Rattle.profiles.specs.Rows.{profileRow}
 use Rattle.profiles.proofs.Rules.{column}
 use Rattle.profiles.proofs.row_at.Statement.{statement}
 use Rattle.profiles.proofs.row_at.Tie as tie
@@ -102,10 +103,14 @@ mul-t49 c = search needs
 element-copy-out-t52 : tie.Need-element-copy-out-t52
 element-copy-out-t52 c = search needs
 
+-- places of the walk, by name
+abbrev entry : tie.After-t52 → tie.Start
+entry c = c .before .before .before .before .before .before .before .before .before .before
+
 returns : tie.Need-returns
 unfolding profileRow numbers
 returns c =
-    let a = c .before .before .before .before .before .before .before .before .before .before in
+    let a = entry c in
     let xs = a .args .table .now in
     let k = a .args .k in
     let col : (n : ℕ) → T (ltb n 10) → getD xs (10 * k + n) 0 ≡ getD (numbers (getD uepTable k noRow)) n 0 = λ n t. column xs (a .pre .1) k n (a .pre .0) (lit< t) in

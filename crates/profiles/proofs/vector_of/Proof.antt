@@ -58,6 +58,13 @@ add-j c = let h : c .before .loop .j < 32 = c .loop-test .taken in omega arith
 loop-less : tie.Need-loop-less Inv-loop μ-loop
 loop-less c = let h : c .before .loop .j < 32 = c .loop-test .taken in omega arith
 
+-- places of the walk, by name
+abbrev entryFromInLoop : tie.In-loop Inv-loop μ-loop → tie.Start Inv-loop μ-loop
+entryFromInLoop c = c .before .before .before
+
+abbrev entryFromLoop : tie.After-loop Inv-loop μ-loop → tie.Start Inv-loop μ-loop
+entryFromLoop c = c .before .before .before
+
 loop-again : tie.Need-loop-again Inv-loop μ-loop
 loop-again c =
     let i = c .before .loop .inv in
@@ -69,14 +76,14 @@ loop-again c =
       table = i .table;
       long = simp length-set (i .long);
       upto = omega arith;
-      filled-to = filled 0 (c .before .loop .v) _ _ (λ (k : ℕ). pickN (keeps (c .before .before .before .args .pi + 1) k) 1 0) l (i .filled-to) (i .table .place _ _ (i .below) h);
+      filled-to = filled 0 (c .before .loop .v) _ _ (λ (k : ℕ). pickN (keeps (entryFromInLoop c .args .pi + 1) k) 1 0) l (i .filled-to) (i .table .place _ _ (i .below) h);
     }
 
 returns-2 : tie.Need-returns-2 Inv-loop μ-loop
 unfolding vectorAt vector
 returns-2 c =
     let i = c .before .loop .inv in
-    let pi = c .before .before .before .args .pi in
+    let pi = entryFromLoop c .args .pi in
     let h : 32 ≤ c .before .loop .j = c .loop-test .left in
     rw (lt-ltb pi 24 (i .below))
     (ext-getD 0 _ _ (i .long ∙ sym (length-map (listOf 32 (keeps (pi + 1))) (λ (b : Bool). pickN b 1 0) ∙ length-listOf 32 (keeps (pi + 1))))

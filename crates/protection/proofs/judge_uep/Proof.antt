@@ -9,6 +9,10 @@ use borrow.Author.Needs.{needs}
 use Rattle.protection.proofs.judge_uep.Statement.{statement}
 use Rattle.protection.proofs.judge_uep.Tie as tie
 
+-- past the test that the size is not short
+abbrev not-short : tie.After-refused2 → tie.Else1
+not-short c = c .before .before
+
 mul-have : tie.Need-mul-have
 mul-have c = search needs
 
@@ -23,8 +27,9 @@ refused-requires-2 c κs = search needs
 
 returns-2 : tie.Need-returns-2
 returns-2 c =
-    let a = c .before .before .before .args in
-    let h : a .needed ≤ 64 * a .size = c .before .before .if1 .left in
+    let e = not-short c in
+    let a = e .before .args in
+    let h : a .needed ≤ 64 * a .size = e .if1 .left in
     let k : 8 < 64 * a .size - a .needed = c .before .if2 .taken in
     c .refused2 .ensures ∙ ap (λ (n : ℕ). outcome n tt) (sym (long-refused (a .start) (a .size) (a .needed) h (omega arith)))
 
@@ -33,8 +38,9 @@ judge-place-requires c κs = search needs
 
 returns-3 : tie.Need-returns-3
 returns-3 c =
-    let a = c .before .before .before .args in
-    let h : a .needed ≤ 64 * a .size = c .before .before .if1 .left in
+    let e = c .before .before in
+    let a = e .before .args in
+    let h : a .needed ≤ 64 * a .size = e .if1 .left in
     let k : 64 * a .size - a .needed ≤ 8 = c .before .if2 .left in
     c .judge-place .ensures ∙ ap (λ (n : ℕ). outcome n tt) (sym (uep-place (a .start) (a .size) (a .needed) h (omega arith)))
 

@@ -12,6 +12,13 @@ use borrow.Author.Needs.{needs}
 use Rattle.protection.proofs.needed_size.Statement.{statement}
 use Rattle.protection.proofs.needed_size.Tie as tie
 
+-- where the row was looked up, from the two arms
+abbrev refusing : tie.After-judged → tie.After-protection-params
+refusing c = c .before .before .before
+
+abbrev giving : tie.After-enum-told → tie.After-protection-params
+giving c = c .before .before .before
+
 protection-params-requires : tie.Need-protection-params-requires
 protection-params-requires c κs = search needs
 
@@ -23,17 +30,17 @@ enum-told c = search needs
 
 kept-size-requires : tie.Need-kept-size-requires
 kept-size-requires c κs =
-    let w = c .before .before .before in
+    let w = giving c in
     row-bounded (w .before .args .d) (w .protection-params .ensures) (c .enum-told .given .1) (search needs)
 
 returns : tie.Need-returns
 returns c =
-    let w = c .before .before .before .before in
+    let w = refusing (c .before) in
     size-refused (w .before .args .d) (w .protection-params .ensures) keptSize _ (c .before .judged .given .1)
 
 returns-2 : tie.Need-returns-2
 returns-2 c =
-    let w = c .before .before .before .before in
+    let w = giving (c .before) in
     let d = w .before .args .d in
     let p = w .protection-params .ensures in
     let q = c .before .enum-told .given .1 in

@@ -1,7 +1,8 @@
 -- `protection::uep_params` meets its contract: the scan's answer is a row of the table, or none.
 -- Assumes nothing.
-use mathlib.Core.Path.{sym, _∙_}
+use mathlib.Core.Path.{sym, ap, _∙_}
 use native.Mathlib.Omega.{arith}
+use Rattle.profiles.specs.Rows.{foundAs}
 use Rattle.protection.proofs.Rows.{uep-given, uep-missing, uep-made, refused-row, given-row}
 use borrow.Author.Needs.{needs}
 use Rattle.protection.proofs.uep_params.Statement.{statement}
@@ -47,13 +48,13 @@ returns : tie.Need-returns
 returns c =
     let w = c .before .before .before .before .before .before .before .before .before in
     let a = w .before .before .before .args in
-    let e = sym (w .found .given .1) ∙ w .before .before .uep-profile .ensures in
+    let e = sym (ap foundAs (w .found .given .1)) ∙ w .before .before .uep-profile .ensures in
     given-row (uep-given (a .bitrate) (a .level) _ e) (uep-made (a .bitrate) (a .level) _ e)
 
 returns-2 : tie.Need-returns-2
 returns-2 c =
     let a = c .before .before .before .before .args in
-    let e = sym (c .before .enum-told .given .1) ∙ c .before .before .before .uep-profile .ensures in
+    let e = sym (ap foundAs (c .before .enum-told .given .1)) ∙ c .before .before .before .uep-profile .ensures in
     refused-row 4 (omega arith) (uep-missing (a .bitrate) (a .level) e) (c .no-row .ensures)
 
 pub uep-params-spec : {M : Type 1} → statement M

@@ -35,9 +35,13 @@ int-to-float-result c = search needs
 int-to-float-result-2 : tie.Need-int-to-float-result-2
 int-to-float-result-2 c = search needs
 
+-- places of the walk, by name
+abbrev entry : tie.After-row-known2 → tie.Start
+entry c = c .before .before .before
+
 returns-2 : tie.Need-returns-2
 returns-2 c =
-    let start = c .before .before .before in
+    let start = entry c in
     rw (toZ-ofZ (start .fits .metric), toZ-ofZ (start .fits .sum))
     (some-sum (start .args .metric) (start .args .sum) (start .pre) (c .before .before .if1 .left))
 

@@ -40,10 +40,20 @@ shared-slice-copy-out-weight c = omega arith
 weight-requires : tie.Need-weight-requires Inv-loop μ-loop
 weight-requires c κs = tt
 
+-- places of the walk, by name
+abbrev atLoopFromWeight : tie.After-weight Inv-loop μ-loop → tie.At-loop Inv-loop μ-loop
+atLoopFromWeight c = c .before .before .before
+
+abbrev entry : tie.After-weight Inv-loop μ-loop → tie.Start Inv-loop μ-loop
+entry c = c .before .before .before .before
+
+abbrev atLoopFromPlus : tie.After-plus Inv-loop μ-loop → tie.At-loop Inv-loop μ-loop
+atLoopFromPlus c = c .before .before .before .before
+
 plus-requires : tie.Need-plus-requires Inv-loop μ-loop
 plus-requires c κs =
-    let v = c .before .before .before .loop .inv in
-    let x : ℤ = getD (c .before .before .before .before .args .soft .now) (c .before .before .before .loop .i) (pos 0) in
+    let v = atLoopFromWeight c .loop .inv in
+    let x : ℤ = getD (entry c .args .soft .now) (atLoopFromWeight c .loop .i) (pos 0) in
     let w = weight-is x (c .before .weight-arg .given) (c .weight .ok) (c .weight .ensures) in
     omega (arith, ap natAbs (v .1), ap natAbs w, v .2 .few, natAbs-le x (c .before .weight-arg .given))
 
@@ -55,7 +65,7 @@ loop-less c = omega arith
 
 loop-again : tie.Need-loop-again Inv-loop μ-loop
 loop-again c =
-    let turn = c .before .before .before .before in
+    let turn = atLoopFromPlus c in
     let v = turn .loop .inv in
     let x : ℤ = getD (turn .before .args .soft .now) (turn .loop .i) (pos 0) in
     let w = weight-is x (c .before .before .weight-arg .given) (c .before .weight .ok) (c .before .weight .ensures) in

@@ -24,6 +24,38 @@ Inv-loop soft₀ cif1₀ cif2₀ cif3₀ ring1₀ ring2₀ ring3₀ first₀ sec
 abbrev μ-loop : tie.MeasureT-loop
 μ-loop soft₀ cif1₀ cif2₀ cif3₀ ring1₀ ring2₀ ring3₀ first₀ second₀ third₀ symbol₀ soft cif1 cif2 cif3 ring1 ring2 ring3 first second third symbol = 360 - symbol
 
+-- the places that the proof looks back to, the last first
+abbrev third-heard : tie.After-ring32 Inv-loop μ-loop → tie.After-listen3 Inv-loop μ-loop
+third-heard c = c .before .before
+
+abbrev second-heard : tie.After-listen3 Inv-loop μ-loop → tie.After-listen2 Inv-loop μ-loop
+second-heard c = c .before .before .before .before .before .before
+
+abbrev first-heard : tie.After-listen2 Inv-loop μ-loop → tie.After-listen Inv-loop μ-loop
+first-heard c = c .before .before .before .before .before .before
+
+abbrev symbol-read : tie.After-listen Inv-loop μ-loop → tie.After-next Inv-loop μ-loop
+symbol-read c = c .before .before .before .before .before .before
+
+abbrev taken : tie.After-next Inv-loop μ-loop → tie.In-loop Inv-loop μ-loop
+taken c = c .before .before
+
+abbrev third-ready : tie.At-loop Inv-loop μ-loop → tie.After-start3 Inv-loop μ-loop
+third-ready c = c .before .before
+
+abbrev second-ready : tie.After-start3 Inv-loop μ-loop → tie.After-start2 Inv-loop μ-loop
+second-ready c = c .before .before .before .before
+
+abbrev first-ready : tie.After-start2 Inv-loop μ-loop → tie.After-start Inv-loop μ-loop
+first-ready c = c .before .before .before .before
+
+abbrev begun : tie.At-loop Inv-loop μ-loop → tie.Start Inv-loop μ-loop
+begun c = first-ready (second-ready (third-ready c)) .before .before .before
+
+-- a symbol was read and heard by all three
+abbrev again : tie.After-ring32 Inv-loop μ-loop → tie.After-next Inv-loop μ-loop
+again c = symbol-read (first-heard (second-heard (third-heard c)))
+
 first-description-requires : tie.Need-first-description-requires Inv-loop μ-loop
 first-description-requires c κs = tt
 
@@ -58,34 +90,61 @@ listen-requires-3 : tie.Need-listen-requires-3 Inv-loop μ-loop
 listen-requires-3 c κs = tt
 
 add-symbol : tie.Need-add-symbol Inv-loop μ-loop
-add-symbol c = omega (arith, c .before .before .before .before .before .before .before .before .before .before .before .before .before .before .before .before .before .before .before .before .before .before .loop-test .taken)
+add-symbol c = omega (arith, taken (again c) .loop-test .taken)
 
 loop-less : tie.Need-loop-less Inv-loop μ-loop
-loop-less c = omega (arith, c .before .before .before .before .before .before .before .before .before .before .before .before .before .before .before .before .before .before .before .before .before .before .loop-test .taken)
+loop-less c = omega (arith, taken (again c) .loop-test .taken)
 
 loop-again : tie.Need-loop-again Inv-loop μ-loop
-loop-again c = let v = c .before .before .before .before .before .before .before .before .before .before .before .before .before .before .before .before .before .before .before .before .before .before .before .loop .inv in record { soft = c .before .before .before .before .before .before .before .before .before .before .before .before .before .before .before .before .before .before .before .before .next .kept .1 .1 .1 .1 .0 ∙ v .soft; cif1 = c .before .before .before .before .before .before .before .before .before .before .before .before .before .before .listen .kept .1 .1 .0 ∙ v .cif1; cif2 = c .before .before .before .before .before .before .before .before .listen2 .kept .1 .1 .0 ∙ v .cif2; cif3 = c .before .before .listen3 .kept .1 .1 .0 ∙ v .cif3; ring1 = c .before .before .before .before .before .before .before .before .before .before .before .before .before .before .listen .kept .1 .1 .1 .0 ∙ v .ring1; ring2 = c .before .before .before .before .before .before .before .before .listen2 .kept .1 .1 .1 .0 ∙ v .ring2; ring3 = c .before .before .listen3 .kept .1 .1 .1 .0 ∙ v .ring3 }
+loop-again c =
+    let three = third-heard c in
+    let two = second-heard three in
+    let one = first-heard two in
+    let v = taken (symbol-read one) .before .loop .inv in
+    record {
+      soft = symbol-read one .next .kept .1 .0 ∙ v .soft;
+      cif1 = one .listen .kept .1 .1 .0 ∙ v .cif1;
+      cif2 = two .listen2 .kept .1 .1 .0 ∙ v .cif2;
+      cif3 = three .listen3 .kept .1 .1 .0 ∙ v .cif3;
+      ring1 = one .listen .kept .1 .1 .1 .0 ∙ v .ring1;
+      ring2 = two .listen2 .kept .1 .1 .1 .0 ∙ v .ring2;
+      ring3 = three .listen3 .kept .1 .1 .1 .0 ∙ v .ring3;
+    }
+
+-- a ring is as long as it was lent, through its set-up and the loop
+ring1-kept : (c : tie.At-loop Inv-loop μ-loop) → length (c .loop .ring1) ≡ length (begun c .args .ring1 .now)
+ring1-kept c = c .loop .inv .ring1 ∙ first-ready (second-ready (third-ready c)) .start .kept .1 .0
+
+ring2-kept : (c : tie.At-loop Inv-loop μ-loop) → length (c .loop .ring2) ≡ length (begun c .args .ring2 .now)
+ring2-kept c = c .loop .inv .ring2 ∙ second-ready (third-ready c) .start2 .kept .1 .0
+
+ring3-kept : (c : tie.At-loop Inv-loop μ-loop) → length (c .loop .ring3) ≡ length (begun c .args .ring3 .now)
+ring3-kept c = c .loop .inv .ring3 ∙ third-ready c .start3 .kept .1 .0
+
+-- what the loop kept, where it ends after a read and where it ends before one
+abbrev ended : tie.After-next Inv-loop μ-loop → tie.At-loop Inv-loop μ-loop
+ended c = taken c .before
 
 same-length : tie.Need-same-length Inv-loop μ-loop
-same-length c = c .before .before .next .kept .1 .1 .1 .1 .0 ∙ c .before .before .before .before .before .loop .inv .soft
+same-length c = let n = c .before .before in n .next .kept .1 .0 ∙ ended n .loop .inv .soft
 
 same-length-2 : tie.Need-same-length-2 Inv-loop μ-loop
-same-length-2 c = c .before .before .before .before .before .loop .inv .cif1
+same-length-2 c = ended (c .before .before) .loop .inv .cif1
 
 same-length-3 : tie.Need-same-length-3 Inv-loop μ-loop
-same-length-3 c = c .before .before .before .before .before .loop .inv .cif2
+same-length-3 c = ended (c .before .before) .loop .inv .cif2
 
 same-length-4 : tie.Need-same-length-4 Inv-loop μ-loop
-same-length-4 c = c .before .before .before .before .before .loop .inv .cif3
+same-length-4 c = ended (c .before .before) .loop .inv .cif3
 
 same-length-5 : tie.Need-same-length-5 Inv-loop μ-loop
-same-length-5 c = c .before .before .before .before .before .loop .inv .ring1 ∙ c .before .before .before .before .before .before .before .before .before .before .before .before .before .before .before .start .kept .1 .0
+same-length-5 c = ring1-kept (ended (c .before .before))
 
 same-length-6 : tie.Need-same-length-6 Inv-loop μ-loop
-same-length-6 c = c .before .before .before .before .before .loop .inv .ring2 ∙ c .before .before .before .before .before .before .before .before .before .before .before .start2 .kept .1 .0
+same-length-6 c = ring2-kept (ended (c .before .before))
 
 same-length-7 : tie.Need-same-length-7 Inv-loop μ-loop
-same-length-7 c = c .before .before .before .before .before .loop .inv .ring3 ∙ c .before .before .before .before .before .before .before .start3 .kept .1 .0
+same-length-7 c = ring3-kept (ended (c .before .before))
 
 returns : tie.Need-returns Inv-loop μ-loop
 returns c = tt
@@ -103,13 +162,13 @@ same-length-11 : tie.Need-same-length-11 Inv-loop μ-loop
 same-length-11 c = c .before .loop .inv .cif3
 
 same-length-12 : tie.Need-same-length-12 Inv-loop μ-loop
-same-length-12 c = c .before .loop .inv .ring1 ∙ c .before .before .before .before .before .before .before .before .before .before .before .start .kept .1 .0
+same-length-12 c = ring1-kept (c .before)
 
 same-length-13 : tie.Need-same-length-13 Inv-loop μ-loop
-same-length-13 c = c .before .loop .inv .ring2 ∙ c .before .before .before .before .before .before .before .start2 .kept .1 .0
+same-length-13 c = ring2-kept (c .before)
 
 same-length-14 : tie.Need-same-length-14 Inv-loop μ-loop
-same-length-14 c = c .before .loop .inv .ring3 ∙ c .before .before .before .start3 .kept .1 .0
+same-length-14 c = ring3-kept (c .before)
 
 returns-2 : tie.Need-returns-2 Inv-loop μ-loop
 returns-2 c = tt

@@ -24,9 +24,10 @@ byte-at-requires-3 c κs = search needs
 
 returns : tie.Need-returns
 returns c =
-    let start = c .before .before .before .before .before .pair-at .ensures in
-    let size = c .before .before .before .before .pair-at2 .ensures in
-    let rate = c .before .before .before .pair-at3 .ensures in
+    let third : tie.After-pair-at3 = c .before .before .before in
+    let start = third .before .before .pair-at .ensures in
+    let size = third .before .pair-at2 .ensures in
+    let rate = third .pair-at3 .ensures in
     rw (start, size, rate, c .before .before .byte-at .ensures, c .before .byte-at2 .ensures, c .byte-at3 .ensures)
 
 pub description-spec : {M : Type 1} → statement M

@@ -26,6 +26,13 @@ part xs ys n r h l e g =
       beyond = subst⁻¹ (λ (k : ℕ). drop k (ys ++ drop n xs) ≡ drop k xs) whole (drop-append-add ys (drop n xs) m ∙ (drop-drop m n xs ∙ ap (λ (k : ℕ). drop k xs) (sym from)));
     }
 
+-- from the bytes read back to their number, and to the start
+abbrev chosen : tie.After-read-full → tie.After-least
+chosen c = c .before .before
+
+abbrev start : tie.After-least → tie.Start
+start c = c .before .before .before
+
 read-length-requires : tie.Need-read-length-requires
 read-length-requires c κs = search needs
 
@@ -37,7 +44,7 @@ slice-relend-prefix-read-full c = search needs
 
 slice-aggregate-read-full : tie.Need-slice-aggregate-read-full
 slice-aggregate-read-full c =
-    let xs = c .before .before .before .before .args .buf .now in
+    let xs = start (c .before) .args .buf .now in
     let n = c .before .least .result in
     let h : n ≤ length xs = search needs in
     sym (length-take-le n xs h)
@@ -51,8 +58,9 @@ same-length c = search needs
 returns : tie.Need-returns
 returns c =
     let call = c .before .before .read-full in
-    let n = c .before .before .before .before .least .result in
-    let xs = c .before .before .before .before .before .before .before .args .buf .now in
+    let least = chosen (c .before .before) in
+    let n = least .least .result in
+    let xs = start least .args .buf .now in
     let h : n ≤ 65535 = search needs in
     let l : n ≤ length xs = search needs in
     part xs (call .last .1 .0) n (call .result) h l (call .kept .1 .0) (call .ensures .0)

@@ -26,8 +26,12 @@ steps-requires c κs = search needs
 array-share-prefix-bits : tie.Need-array-share-prefix-bits
 array-share-prefix-bits c = search needs
 
+-- from the number of bits back to the decoder
+abbrev decoded : tie.After-steps → tie.After-viterbi-decode-with-metric
+decoded c = c .before .before .before .before
+
 slice-aggregate-say-decoding : tie.Need-slice-aggregate-say-decoding
-slice-aggregate-say-decoding c = sym (length-take-le _ _ (omega (arith, c .before .steps .ensures, c .before .before .before .before .before .viterbi-decode-with-metric .kept .1 .1 .0)))
+slice-aggregate-say-decoding c = sym (length-take-le _ _ (omega (arith, c .before .steps .ensures, decoded (c .before) .viterbi-decode-with-metric .kept .1 .1 .0)))
 
 say-decoding-requires : tie.Need-say-decoding-requires
 say-decoding-requires c κs = search needs

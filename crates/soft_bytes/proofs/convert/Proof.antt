@@ -52,6 +52,10 @@ Inv-loop bytes soft₀ n i₀ soft i = Inv bytes soft₀ n soft i
 abbrev μ-loop : tie.MeasureT-loop
 μ-loop bytes soft₀ n i₀ soft i = n - i
 
+-- from a byte's value back to the loop's test
+abbrev entered : tie.After-soft-of Inv-loop μ-loop → tie.At-loop Inv-loop μ-loop
+entered c = c .before .before .before
+
 least-requires : tie.Need-least-requires Inv-loop μ-loop
 least-requires c κs = tt
 
@@ -66,7 +70,7 @@ soft-of-requires c κs = tt
 
 slice-set-from-soft : tie.Need-slice-set-from-soft Inv-loop μ-loop
 slice-set-from-soft c =
-    let v = c .before .before .before .loop .inv in
+    let v = entered c .loop .inv in
     omega (arith, v .many, long v)
 
 add-i : tie.Need-add-i Inv-loop μ-loop
@@ -77,8 +81,7 @@ loop-less c = omega arith
 
 loop-again : tie.Need-loop-again Inv-loop μ-loop
 loop-again c =
-    let turn = c .before .before .before in
-    again (turn .loop .inv) (omega arith) (back w8 (c .soft-of .ok) (c .soft-of .ensures))
+    again (entered c .loop .inv) (omega arith) (back w8 (c .soft-of .ok) (c .soft-of .ensures))
 
 same-length : tie.Need-same-length Inv-loop μ-loop
 same-length c = long (c .before .loop .inv)

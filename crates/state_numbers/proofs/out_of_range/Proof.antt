@@ -9,6 +9,28 @@ use borrow.Author.Needs.{needs}
 use Rattle.state_numbers.proofs.out_of_range.Statement.{statement}
 use Rattle.state_numbers.proofs.out_of_range.Tie as tie
 
+-- places on the way, by name
+abbrev start : tie.After-either8 → tie.Start
+start c = c .before .before .before .before .before .before .before .before .before .before .before .before .before .before .before .before .before .before
+
+abbrev past-either : tie.After-either8 → tie.After-either
+past-either c = c .before .before .before .before .before .before .before .before .before .before .before .before .before .before
+
+abbrev past-either2 : tie.After-either8 → tie.After-either2
+past-either2 c = c .before .before .before .before .before .before .before .before .before .before .before .before
+
+abbrev past-either3 : tie.After-either8 → tie.After-either3
+past-either3 c = c .before .before .before .before .before .before .before .before .before .before
+
+abbrev past-either4 : tie.After-either8 → tie.After-either4
+past-either4 c = c .before .before .before .before .before .before .before .before
+
+abbrev past-either5 : tie.After-either8 → tie.After-either5
+past-either5 c = c .before .before .before .before .before .before
+
+abbrev past-either6 : tie.After-either8 → tie.After-either6
+past-either6 c = c .before .before .before .before
+
 shared-slice-read-option : tie.Need-shared-slice-read-option
 shared-slice-read-option c = search needs
 
@@ -63,9 +85,9 @@ either-requires-8 c κs = search needs
 returns : tie.Need-returns
 unfolding outOfRange
 returns c =
-    let x : ℕ → ℕ = λ k. getD (c .before .before .before .before .before .before .before .before .before .before .before .before .before .before .before .before .before .before .args .state .now) k 0 in
+    let x : ℕ → ℕ = λ k. getD (start c .args .state .now) k 0 in
     nine-flags (ltb 255 (x 0)) (ltb 255 (x 1)) (ltb 255 (x 2)) (ltb 255 (x 3)) (ltb 65535 (x 5)) (ltb 65535 (x 6)) (ltb 65535 (x 7)) (ltb 255 (x 8)) (ltb 255 (x 9))
-    (c .before .before .before .before .before .before .before .before .before .before .before .before .before .before .either .ensures) (c .before .before .before .before .before .before .before .before .before .before .before .before .either2 .ensures) (c .before .before .before .before .before .before .before .before .before .before .either3 .ensures) (c .before .before .before .before .before .before .before .before .either4 .ensures) (c .before .before .before .before .before .before .either5 .ensures) (c .before .before .before .before .either6 .ensures) (c .before .before .either7 .ensures) (c .either8 .ensures)
+    (past-either c .either .ensures) (past-either2 c .either2 .ensures) (past-either3 c .either3 .ensures) (past-either4 c .either4 .ensures) (past-either5 c .either5 .ensures) (past-either6 c .either6 .ensures) (c .before .before .either7 .ensures) (c .either8 .ensures)
 
 pub out-of-range-spec : {M : Type 1} → statement M
 out-of-range-spec =

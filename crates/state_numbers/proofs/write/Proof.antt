@@ -1,12 +1,17 @@
 -- `state_numbers::write` meets its contract: 8 with nothing changed, or all eleven.
 -- Assumes nothing.
+use mathlib.Core.Path.{refl}
 use borrow.Author.Needs.{needs}
-use Rattle.state_numbers.proofs.Numbers.{no-room, has-room, eight, none}
+use Rattle.places.proofs.Places.{wrote-short, wrote-all}
 use Rattle.state_numbers.proofs.write.Statement.{statement}
 use Rattle.state_numbers.proofs.write.Tie as tie
 
+-- past the test
+abbrev long : tie.After-put → tie.Else1
+long c = c .before .before
+
 returns : tie.Need-returns
-returns c = (eight _ (c .if1 .taken), no-room _ _ (c .if1 .taken))
+returns c = wrote-short 0 11 _ _ refl (c .if1 .taken)
 
 put-requires : tie.Need-put-requires
 put-requires c κs = search needs
@@ -16,8 +21,8 @@ same-length c = search needs
 
 returns-2 : tie.Need-returns-2
 returns-2 c =
-    let l = c .before .before .before .before .if1 .left in
-    (none _ l, has-room _ (c .before .before .before .before .before .before .args .state .now) l (c .before .before .put .ensures))
+    let p = c .before .before in
+    wrote-all 0 11 _ _ _ refl (long p .if1 .left) (p .put .ensures)
 
 pub write-spec : {M : Type 1} → statement M
 write-spec = tie.close (tie.spec returns put-requires same-length returns-2)

@@ -1,4 +1,4 @@
--- `state_places::feed_symbol` meets its contract: the refusal of the places, or the room's answer told.
+-- `state_places::feed_symbol` meets its contract: the refusal of the places, or the handler's answer told.
 -- Assumes nothing.
 use mathlib.Core.Path.{refl}
 use lib.ListN.{length}
@@ -11,9 +11,12 @@ use borrow.Author.Needs.{needs}
 use Rattle.state_places.proofs.feed_symbol.Statement.{statement}
 use Rattle.state_places.proofs.feed_symbol.Tie as tie
 
--- the places that are lent
+-- the places of the answer, with the state's
+abbrev start : tie.After-read-beside → tie.Start
+start c = c .before .before .before .before .before .before .before .before
+
 abbrev given : tie.After-read-beside → FedPlaces
-given r = let s = r .before .before .before .before .before .before .before .before in fedPlaces (s .args .state .now) (s .args .length .now) (s .args .percent .now)
+given c = let a = start c .args in fedPlaces (a .state .now) (a .length .now) (a .percent .now)
 
 -- past the first test none of them is short, and the state is read
 found : (c : tie.After-reading2) → let f = given (c .before .before) in Held (placesRefusal (f .state) (length (f .lengths)) (length (f .percents))) (stateIn (f .state)) (c .reading2 .given .0 .0)
@@ -23,8 +26,18 @@ found c = held _ _ _ (c .before .before .read-beside .ensures) _ (c .reading2 .g
 abbrev put : tie.After-slice-known12 → tie.After-put-fed
 put c = c .before .before .before .before .before .before
 
+abbrev taken : tie.After-put-fed-arg3 → tie.After-feed-symbol
+taken c = c .before .before .before .before .before .before .before .before .before .before .before .before .before
+
+abbrev read : tie.After-feed-symbol → tie.After-reading2
+read c = c .before .before .before .before .before .before .before .before .before
+
 abbrev fed : tie.After-slice-known12 → tie.After-feed-symbol
-fed c = put c .before .before .before .before .before .before .before .before .before .before .before .before .before .before
+fed c = taken (put c .before)
+
+-- places on the way, by name
+abbrev past-read-beside : tie.After-known-told → tie.After-read-beside
+past-read-beside c = c .before .before .before
 
 read-beside-requires : tie.Need-read-beside-requires
 read-beside-requires c κs = tt
@@ -40,7 +53,7 @@ feed-symbol-requires c κs = tt
 
 put-fed-requires : tie.Need-put-fed-requires
 put-fed-requires c κs =
-    let e = c .before .before .before .before .before .before .before .before .before .before .before .before .before .before .before .before .before .before .before .before .before .before in
+    let e = read (taken c) in
     enough (given (e .before .before)) (found e .none)
 
 same-length : tie.Need-same-length
@@ -48,7 +61,7 @@ same-length c = refl
 
 returns : tie.Need-returns
 returns c =
-    let r = c .before .before .before in
+    let r = past-read-beside c in
     let a = away _ _ _ (r .read-beside .ensures) _ (c .before .reading .given .1) in
     turned-away _ _ (given r) _ (a .number-is) (a .is-one)
 
@@ -85,8 +98,8 @@ same-length-11 c = put c .put-fed .kept .1 .1 .1 .0
 returns-2 : tie.Need-returns-2
 returns-2 c =
     let w = fed c in
-    let e = w .before .before .before .before .before .before .before .before .before in
-    fed-told (given (e .before .before)) (found e .none) (found e .state-is) (w .feed-symbol .result) (w .feed-symbol .ensures) _ _ (put c .put-fed .ensures)
+    let e = read w in
+    fed-told (given (e .before .before)) (found e .none) (found e .state-is) (w .feed-symbol .result) (w .feed-symbol .ensures) (put c .put-fed .ensures)
 
 pub feed-symbol-spec : {M : Type 1} → statement M
 feed-symbol-spec =

@@ -2,14 +2,14 @@
 -- Assumes nothing.
 use mathlib.Core.Path.{_≡_, _∙_}
 use Rattle.protection.specs.Refusals.{refusalOf}
-use Rattle.places.proofs.Places.{number-is}
+use Rattle.refusal.proofs.Laws.{number-of}
 use Rattle.state_places.proofs.MscCalls.{refused-eight, accepted-eight}
 use borrow.Author.Needs.{needs}
 use Rattle.state_places.proofs.no_state.Statement.{statement}
 use Rattle.state_places.proofs.no_state.Tie as tie
 
 judged : (c : tie.After-number) → c .number .result ≡ refusalOf (c .before .before .args .d)
-judged c = c .number .ensures ∙ number-is (c .before .judge .result) _ (c .before .judge .ensures .answer)
+judged c = c .number .ensures ∙ number-of _ tt (c .before .judge .ensures .answer)
 
 judge-requires : tie.Need-judge-requires
 judge-requires c κs = search needs

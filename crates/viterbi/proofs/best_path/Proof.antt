@@ -9,8 +9,8 @@ use mir.Facts.{toZ-ofZ}
 use borrow.Author.Needs.{needs}
 use Rattle.laws.specs.Integers.{at}
 use Rattle.laws.proofs.Integers.{abs-fits}
+use Rattle.spec_trellis.specs.Program.{traced}
 use Rattle.spec_trellis.proofs.TrellisPass.{scores-within}
-use Rattle.spec_trellis.proofs.TrellisTrace.{traced}
 use Rattle.viterbi.specs.Decoders.{endsOf, Accepted}
 use Rattle.viterbi.proofs.Paths.{accepted}
 use Rattle.viterbi.proofs.best_path.Statement.{statement}
@@ -25,10 +25,26 @@ patterns-of-requires c κs = search needs
 forward-requires : tie.Need-forward-requires
 forward-requires c κs = search needs
 
+-- places of the walk, by name
+abbrev afterForwardFromScores : tie.After-scores → tie.After-forward
+afterForwardFromScores c = c .before .before .before
+
+abbrev entry : tie.After-forward → tie.Start
+entry c = c .before .before .before .before .before .before .before .before
+
+abbrev afterTraceBack : tie.After-result → tie.After-trace-back
+afterTraceBack c = c .before .before .before
+
+abbrev afterChosenEnd : tie.After-trace-back → tie.After-chosen-end
+afterChosenEnd c = c .before .before .before
+
+abbrev afterForwardFromChosenEnd : tie.After-chosen-end → tie.After-forward
+afterForwardFromChosenEnd c = c .before .before .before .before
+
 chosen-end-requires : tie.Need-chosen-end-requires
 chosen-end-requires c κs =
-    let F = c .before .before .before in
-    let s = F .before .before .before .before .before .before .before .before in
+    let F = afterForwardFromScores c in
+    let s = entry F in
     let xs = s .args .soft .now in
     let f = F .forward .ensures in
     λ u h. omega (arith, scores-within xs (length (s .args .words .now)) (at (F .forward .result)) (f .running) (f .softs) u h)
@@ -50,10 +66,10 @@ same-length-2 c = search needs
 
 returns : tie.Need-returns
 returns c =
-    let T = c .before .before .before in
-    let P = T .before .before .before in
-    let F = P .before .before .before .before in
-    let s = F .before .before .before .before .before .before .before .before in
+    let T = afterTraceBack c in
+    let P = afterChosenEnd T in
+    let F = afterForwardFromChosenEnd P in
+    let s = entry F in
     let xs = s .args .soft .now in
     let words = s .args .words .now in
     let bits = s .args .bits .now in

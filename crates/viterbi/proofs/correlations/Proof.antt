@@ -11,7 +11,7 @@ use borrow.Author.Needs.{needs}
 use Rattle.laws.specs.Integers.{at}
 use Rattle.laws.proofs.Machine.{back}
 use Rattle.laws.proofs.Slices.{filled}
-use Rattle.viterbi.specs.Steps.{correlationOf}
+use Rattle.viterbi.specs.Code.{correlationOf}
 use Rattle.viterbi.proofs.correlations.Statement.{statement}
 use Rattle.viterbi.proofs.correlations.Tie as tie
 

@@ -10,7 +10,8 @@ use borrow.Author.Needs.{needs}
 use Rattle.laws.specs.Integers.{at, pickZ}
 use Rattle.laws.proofs.Integers.{abs-fits}
 use Rattle.laws.proofs.Machine.{back}
-use Rattle.spec_trellis.proofs.TrellisPass.{Greatest, greatest-one, greatest-next}
+use Rattle.spec_trellis.specs.Program.{Greatest}
+use Rattle.spec_trellis.proofs.TrellisPass.{greatest-one, greatest-next}
 use Rattle.viterbi.proofs.greatest.Statement.{statement}
 use Rattle.viterbi.proofs.greatest.Tie as tie
 
@@ -51,9 +52,13 @@ add-i c = omega arith
 loop-less : tie.Need-loop-less Inv-loop μ-loop
 loop-less c = omega arith
 
+-- places of the walk, by name
+abbrev atLoop : tie.After-pick Inv-loop μ-loop → tie.At-loop Inv-loop μ-loop
+atLoop c = c .before .before .before .before
+
 loop-again : tie.Need-loop-again Inv-loop μ-loop
 loop-again c =
-    let l = c .before .before .before .before in
+    let l = atLoop c in
     let s = l .before .before in
     let i = l .loop .i in
     let h : i < 64 = omega arith in

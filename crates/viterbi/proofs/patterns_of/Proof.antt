@@ -4,7 +4,7 @@ use Prim.Native.Nat.{ℕ, _-_, _/_, _%_, _<_, _≤_}
 use native.Mathlib.Omega.{arith}
 use lib.ListN.{length, length-set, getD}
 use Rattle.laws.proofs.Slices.{filled}
-use Rattle.viterbi.specs.Steps.{patternOf}
+use Rattle.viterbi.specs.Code.{patternOf}
 use Rattle.viterbi.proofs.patterns_of.Statement.{statement}
 use Rattle.viterbi.proofs.patterns_of.Tie as tie
 

@@ -10,7 +10,7 @@ use mir.Facts.{toZ-ofZ}
 use borrow.Author.Needs.{needs, sfits-of}
 use Rattle.laws.specs.Integers.{at}
 use Rattle.laws.proofs.Integers.{parts-le, parts-lt, ltZ-false, ltZ-true}
-use Rattle.spec_trellis.proofs.TrellisPass.{stays, falls}
+use Rattle.spec_trellis.specs.Program.{stays, falls}
 use Rattle.viterbi.proofs.renormalised.Statement.{statement}
 use Rattle.viterbi.proofs.renormalised.Tie as tie
 
@@ -30,9 +30,13 @@ lowered-requires c κs =
     let t = b .greatest .ensures in
     (s .pre, subst (λ (z : ℤ). natAbs z ≤ 1000000) (sym (eb b ∙ t .is)) (s .pre (t .place) (t .place-lt)))
 
+-- places of the walk, by name
+abbrev afterGreatest : tie.After-lowered → tie.After-greatest
+afterGreatest c = c .before .before .before
+
 returns : tie.Need-returns
 returns c =
-    let b = c .before .before .before in
+    let b = afterGreatest c in
     let s = b .before .before in
     let m = b .greatest .result in
     let e : ltZ (pos 100000) m ≡ true = ap (ltZ (pos 100000)) (sym (eb b)) ∙ sym (c .before .before .less .ensures) ∙ c .before .if1 .taken in

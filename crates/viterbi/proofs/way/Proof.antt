@@ -9,7 +9,7 @@ use borrow.Author.Needs.{needs}
 use Rattle.laws.specs.Integers.{at}
 use Rattle.laws.proofs.Integers.{abs-fits}
 use Rattle.laws.proofs.Machine.{back}
-use Rattle.viterbi.specs.Steps.{patternOf}
+use Rattle.viterbi.specs.Code.{patternOf}
 use Rattle.viterbi.proofs.Steps.{pattern-lt, register-state, register-input}
 use Rattle.viterbi.proofs.way.Statement.{statement}
 use Rattle.viterbi.proofs.way.Tie as tie
@@ -59,9 +59,13 @@ plus-requires c κs =
     let s = i .before .before in
     rw (es s, ec i) (omega (arith, s .pre .1 .0 (s .args .s) (s .pre .0 .0), s .pre .1 .1 .1 (i .index .result) (lt i)))
 
+-- places of the walk, by name
+abbrev afterIndex : tie.After-plus → tie.After-index
+afterIndex c = c .before .before .before
+
 returns : tie.Need-returns
 returns c =
-    let i = c .before .before .before in
+    let i = afterIndex c in
     let s = i .before .before in
     back w32 (c .plus .ok) (c .plus .ensures ∙ ap₂ _+ℤ_ (es s) (ec i ∙ ap (at (s .args .corr .now)) (ei i)))
 

@@ -1,4 +1,0 @@
-pub mod Calls
-pub mod Code
-pub mod Decoders
-pub mod Depuncturing
