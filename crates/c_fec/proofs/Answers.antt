@@ -9,18 +9,18 @@ use lib.Dec.{ltb}
 use lib.ListN.{length, drop, set}
 use lib.IntN.{ℤ}
 use Rattle.laws.proofs.Lists.{sets-front}
-use Rattle.en300401.specs.Puncturing.{Region}
+use Rattle.spec_en300401.specs.Puncturing.{Region}
 use Rattle.spec_trellis.specs.Trellis.{Ends}
 use Rattle.refusal.specs.Outcome.{gives, refuses, outcome, unlessRefused, numberOf, check, orElse}
 use Rattle.refusal.proofs.Checks.{same-check, no-more, passed-by}
 use Rattle.refusal.proofs.Laws.{orElse-assoc, orElse-zero, or-either, number-of, where-done, where-refused, untouched-by}
-use Rattle.protection.specs.declared.Judged.{Judged}
-use Rattle.protection.specs.Answers.{judgedAs}
-use Rattle.depuncturing.specs.Promises.{DepuncturePromise}
-use Rattle.viterbi.specs.declared.Decoding.{Decoding}
-use Rattle.viterbi.specs.declared.Decoding.the-variants.{Done, Refused}
-use Rattle.viterbi.specs.Decoders.{steps, decoderRefusal, decodedAs, metricOf, Accepted, Untouched as as-they-were, Decoded}
-use Rattle.places.specs.Places.{short}
+use Rattle.fec_protection.specs.declared.Judged.{Judged}
+use Rattle.fec_protection.specs.Answers.{judgedAs}
+use Rattle.fec_depuncturing.specs.Promises.{DepuncturePromise}
+use Rattle.fec_viterbi.specs.declared.Decoding.{Decoding}
+use Rattle.fec_viterbi.specs.declared.Decoding.the-variants.{Done, Refused}
+use Rattle.fec_viterbi.specs.Decoders.{steps, decoderRefusal, decodedAs, metricOf, Accepted, Untouched as as-they-were, Decoded}
+use Rattle.c_description.specs.Places.{short}
 use Rattle.c_fec.specs.Code.{Told, noPlace}
 use Rattle.c_fec.specs.Decoders.{decoderNumber, numberDecoding, Untouched, Written, Decoder}
 use Rattle.c_fec.specs.Depuncturing.{Filled}

@@ -5,10 +5,10 @@ use mathlib.Core.List.{List, _∷_}
 use Prim.Native.Nat.{ℕ, zero, suc}
 use lib.ListN.{drop}
 use lib.IntN.{ℤ}
-use Rattle.en300401.specs.Puncturing.{Region}
+use Rattle.spec_en300401.specs.Puncturing.{Region}
 use Rattle.spec_trellis.specs.Trellis.{Ends}
 use Rattle.refusal.specs.Outcome.{unlessRefused}
-use Rattle.viterbi.proofs.Unique.{accepted-unique}
+use Rattle.fec_viterbi.proofs.Unique.{accepted-unique}
 use Rattle.c_fec.specs.Decoders.{numberDecoding, Untouched, Written, Decoder}
 use Rattle.c_fec.specs.Depuncturing.{Filled}
 

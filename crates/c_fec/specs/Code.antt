@@ -6,8 +6,8 @@ use lib.Dec.{ltb}
 use lib.ListN.{drop}
 use lib.IntN.{ℤ}
 use Rattle.refusal.specs.Outcome.{unlessRefused, numberOf, check, orElse}
-use Rattle.viterbi.specs.declared.Decoding.{Decoding}
-use Rattle.viterbi.specs.Decoders.{decodedAs, metricOf}
+use Rattle.fec_viterbi.specs.declared.Decoding.{Decoding}
+use Rattle.fec_viterbi.specs.Decoders.{decodedAs, metricOf}
 
 -- a decoder's answer told, by its number: refused with all as it was, or its metric in the first place
 pub record Told (r : Decoding) (before after : List ℤ) (number : ℕ) : Type 0 where

@@ -6,8 +6,8 @@ use lib.ListN.{length, drop}
 use lib.IntN.{ℤ}
 use Rattle.spec_trellis.specs.Trellis.{Ends}
 use Rattle.refusal.specs.Outcome.{orElse, unlessRefused}
-use Rattle.viterbi.specs.Decoders.{steps, decoderRefusal, Accepted}
-use Rattle.places.specs.Places.{short}
+use Rattle.fec_viterbi.specs.Decoders.{steps, decoderRefusal, Accepted}
+use Rattle.c_description.specs.Places.{short}
 
 -- 11, then 8: the words or the bits have fewer places than steps, or there is no place for the metric
 unfoldable pub decoderNumber : ℕ → ℕ → ℕ → ℕ → ℕ

@@ -4,11 +4,11 @@ use mathlib.Core.List.{List, _++_}
 use Prim.Native.Nat.{ℕ}
 use lib.ListN.{length, drop}
 use lib.IntN.{ℤ}
-use Rattle.en300401.specs.Puncturing.{Region, mask, depuncture, ficProfile}
+use Rattle.spec_en300401.specs.Puncturing.{Region, mask, depuncture, ficProfile}
 use Rattle.refusal.specs.Outcome.{unlessRefused}
-use Rattle.protection.specs.declared.Description.{Description}
-use Rattle.protection.specs.Refusals.{profileOf, roomOf}
-use Rattle.depuncturing.specs.Promises.{mscRefusalOf, ficRefusalOf}
+use Rattle.fec_protection.specs.declared.Description.{Description}
+use Rattle.fec_protection.specs.Refusals.{profileOf, roomOf}
+use Rattle.fec_depuncturing.specs.Promises.{mscRefusalOf, ficRefusalOf}
 
 -- refusal n, 0 where it is done; the depunctured values before the rest as it was, or all as it was
 pub record Filled (n need : ℕ) (profile : List Region) (soft before after : List ℤ) (number : ℕ) : Type 0 where

@@ -4,12 +4,12 @@ ghost use Prim.Native.Nat.{_≤_};
 ghost use lib.ListN.{length};
 ghost use Rattle.spec_trellis.specs.Trellis.{zeroEnd, freeEnd};
 ghost use Rattle.refusal.specs.Outcome.{numberOf};
-ghost use Rattle.viterbi.specs.Decoders.{steps, decodedAs, metricOf};
-ghost use Rattle.places.specs.Places.{describes};
+ghost use Rattle.fec_viterbi.specs.Decoders.{steps, decodedAs, metricOf};
+ghost use Rattle.c_description.specs.Places.{describes};
 ghost use Rattle.c_fec.specs.Code.{Told, noPlace};
 ghost use Rattle.c_fec.specs.Decoders.{Decoder};
 ghost use Rattle.c_fec.specs.Depuncturing.{FilledMsc, FilledFic};
-use viterbi::Decoding;
+use fec_viterbi::Decoding;
 
 // 1 to 7, then 8.
 pub fn depuncture_msc(
@@ -24,7 +24,7 @@ pub fn depuncture_msc(
 ) -> u8
     ensures { λ r. ⌜ FilledMsc (describes «start_addr» «sub_size» bitrate «protection_level» «eep_option» «is_eep») (now (soft .entry)) (now (out .entry)) (now (out .exit)) r ⌝ }
 {
-    let d = places::described(
+    let d = c_description::described(
         start_addr,
         sub_size,
         bitrate,
@@ -32,14 +32,14 @@ pub fn depuncture_msc(
         eep_option,
         is_eep,
     );
-    places::number(depuncturing::depuncture_msc(soft, d, out))
+    c_description::number(fec_depuncturing::depuncture_msc(soft, d, out))
 }
 
 // 8.
 pub fn depuncture_fic(soft: &[i8], out: &mut [i8]) -> u8
     ensures { λ r. ⌜ FilledFic (now (soft .entry)) (now (out .entry)) (now (out .exit)) r ⌝ }
 {
-    places::number(depuncturing::depuncture_fic(soft, out))
+    c_description::number(fec_depuncturing::depuncture_fic(soft, out))
 }
 
 // The number of a refusal, 0 where there is none.
@@ -95,7 +95,10 @@ pub fn viterbi_decode_state0(
     if metric.len() < 1 {
         return no_place(soft);
     }
-    tell(viterbi::viterbi_decode_state0(soft, words, bits), metric)
+    tell(
+        fec_viterbi::viterbi_decode_state0(soft, words, bits),
+        metric,
+    )
 }
 
 // Every path: 11, then 8.
@@ -111,7 +114,7 @@ pub fn viterbi_decode_with_metric(
         return no_place(soft);
     }
     tell(
-        viterbi::viterbi_decode_with_metric(soft, words, bits),
+        fec_viterbi::viterbi_decode_with_metric(soft, words, bits),
         metric,
     )
 }

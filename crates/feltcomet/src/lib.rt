@@ -1,40 +1,40 @@
 // The library for C and Rust: each export is a bare call of a function below with the same promise. include/feltcomet.h declares and explains them.
 // A refusal is returned as its number, 0 where the call is done; after a refusal the caller's buffers are as they were.
 ghost use mathlib.Core.Path.{_≡_};
-ghost use Rattle.en300401.specs.Dispersal.{disperse};
-ghost use Rattle.en300401.specs.Puncturing.{keptSize};
+ghost use Rattle.spec_en300401.specs.Dispersal.{disperse};
+ghost use Rattle.spec_en300401.specs.Puncturing.{keptSize};
 ghost use Rattle.spec_trellis.specs.Trellis.{zeroEnd, freeEnd};
-ghost use Rattle.crc.specs.Tests.{byteTest, bitTest};
-ghost use Rattle.protection.specs.Promises.{motherSize};
-ghost use Rattle.protection.specs.Refusals.{refusalOf};
+ghost use Rattle.fec_crc.specs.Tests.{byteTest, bitTest};
+ghost use Rattle.fec_protection.specs.Promises.{motherSize};
+ghost use Rattle.fec_protection.specs.Refusals.{refusalOf};
 ghost use Rattle.fic_handler.specs.Blocks.{lent};
 ghost use Rattle.msc_handler.specs.Promises.{buffers};
-ghost use Rattle.places.specs.Lookups.{rowOf, one, Looked};
-ghost use Rattle.places.specs.Places.{describes};
+ghost use Rattle.c_description.specs.Lookups.{rowOf, one, Looked};
+ghost use Rattle.c_description.specs.Places.{describes};
 ghost use Rattle.c_fec.specs.Decoders.{Decoder};
 ghost use Rattle.c_fec.specs.Depuncturing.{FilledMsc, FilledFic};
-ghost use Rattle.figure_places.specs.Fic.{figures, FicCall};
-ghost use Rattle.state_places.specs.Msc.{SetUpCall, ResetCall, fedPlaces, FeedCall};
+ghost use Rattle.c_fic.specs.Fic.{figures, FicCall};
+ghost use Rattle.c_msc.specs.Msc.{SetUpCall, ResetCall, fedPlaces, FeedCall};
 
 #[no_mangle]
 pub extern "C" fn feltcomet_energy_dispersal(bits: &mut [u8])
     ensures { λ r. ⌜ now (bits .exit) ≡ disperse (now (bits .entry)) ⌝ }
 {
-    energy_dispersal::energy_dispersal(bits);
+    fec_dispersal::energy_dispersal(bits);
 }
 
 #[no_mangle]
 pub extern "C" fn feltcomet_fib_crc_valid(fib: &[u8]) -> bool
     ensures { λ r. ⌜ r ≡ byteTest (now (fib .entry)) ⌝ }
 {
-    crc::fib_crc_valid(fib)
+    fec_crc::fib_crc_valid(fib)
 }
 
 #[no_mangle]
 pub extern "C" fn feltcomet_check_crc_bits(bits: &[u8]) -> bool
     ensures { λ r. ⌜ r ≡ bitTest (now (bits .entry)) ⌝ }
 {
-    crc::check_crc_bits(bits)
+    fec_crc::check_crc_bits(bits)
 }
 
 #[no_mangle]
@@ -48,7 +48,7 @@ pub extern "C" fn feltcomet_judge(
 ) -> u8
     ensures { λ r. ⌜ r ≡ refusalOf (describes «start_addr» «sub_size» bitrate «protection_level» «eep_option» «is_eep») ⌝ }
 {
-    places::judge(
+    c_description::judge(
         start_addr,
         sub_size,
         bitrate,
@@ -70,7 +70,7 @@ pub extern "C" fn feltcomet_profile(
 ) -> u8
     ensures { λ r. ⌜ Looked (describes «start_addr» «sub_size» bitrate «protection_level» «eep_option» «is_eep») 8 rowOf (now (row .entry)) (now (row .exit)) r ⌝ }
 {
-    places::profile(
+    c_description::profile(
         start_addr,
         sub_size,
         bitrate,
@@ -93,7 +93,7 @@ pub extern "C" fn feltcomet_needed_size(
 ) -> u8
     ensures { λ r. ⌜ Looked (describes «start_addr» «sub_size» bitrate «protection_level» «eep_option» «is_eep») 1 (one keptSize) (now (size .entry)) (now (size .exit)) r ⌝ }
 {
-    places::needed_size(
+    c_description::needed_size(
         start_addr,
         sub_size,
         bitrate,
@@ -116,7 +116,7 @@ pub extern "C" fn feltcomet_depunctured_size(
 ) -> u8
     ensures { λ r. ⌜ Looked (describes «start_addr» «sub_size» bitrate «protection_level» «eep_option» «is_eep») 1 (one motherSize) (now (size .entry)) (now (size .exit)) r ⌝ }
 {
-    places::depunctured_size(
+    c_description::depunctured_size(
         start_addr,
         sub_size,
         bitrate,
@@ -198,7 +198,7 @@ pub extern "C" fn feltcomet_process_fic(
 ) -> u8
     ensures { λ r. ⌜ FicCall (now (first .entry)) (now (second .entry)) (now (third .entry)) (lent (now (depunctured .entry)) (now (words .entry)) (now (bits .entry)) (now (fibs .entry))) (figures (now (counts .entry)) (now (metrics .entry)) (now (percents .entry))) r (lent (now (depunctured .exit)) (now (words .exit)) (now (bits .exit)) (now (fibs .exit))) (figures (now (counts .exit)) (now (metrics .exit)) (now (percents .exit))) ⌝ }
 {
-    figure_places::process_fic(
+    c_fic::process_fic(
         first,
         second,
         third,
@@ -225,7 +225,7 @@ pub extern "C" fn feltcomet_set_up(
 ) -> u8
     ensures { λ r. ⌜ SetUpCall (describes «start_addr» «sub_size» bitrate «protection_level» «eep_option» «is_eep») (now (ring .entry)) (now (state .entry)) r (now (ring .exit)) (now (state .exit)) ⌝ }
 {
-    state_places::set_up(
+    c_msc::set_up(
         start_addr,
         sub_size,
         bitrate,
@@ -241,7 +241,7 @@ pub extern "C" fn feltcomet_set_up(
 pub extern "C" fn feltcomet_reset(state: &mut [u64], ring: &mut [i8]) -> u8
     ensures { λ r. ⌜ ResetCall (now (state .entry)) (now (ring .entry)) r (now (ring .exit)) (now (state .exit)) ⌝ }
 {
-    state_places::reset(state, ring)
+    c_msc::reset(state, ring)
 }
 
 #[no_mangle]
@@ -260,7 +260,7 @@ pub extern "C" fn feltcomet_feed_symbol(
 ) -> u8
     ensures { λ r. ⌜ FeedCall (now (soft .entry)) (buffers (now (cif .entry)) (now (ring .entry)) (now (deinterleaved .entry)) (now (depunctured .entry)) (now (words .entry)) (now (bits .entry)) (now (frame .entry))) (fedPlaces (now (state .entry)) (now (length .entry)) (now (percent .entry))) r (buffers (now (cif .exit)) (now (ring .exit)) (now (deinterleaved .exit)) (now (depunctured .exit)) (now (words .exit)) (now (bits .exit)) (now (frame .exit))) (fedPlaces (now (state .exit)) (now (length .exit)) (now (percent .exit))) ⌝ }
 {
-    state_places::feed_symbol(
+    c_msc::feed_symbol(
         state,
         soft,
         cif,

@@ -11,17 +11,17 @@ use lib.ListN.{length, take, drop}
 use lib.Seq.{take-at, length-take-le}
 use Rattle.laws.specs.Bits.{AreBits}
 use Rattle.laws.proofs.Bits.{below-take}
-use Rattle.en300401.specs.Puncturing.{mask, depuncture, ficProfile}
+use Rattle.spec_en300401.specs.Puncturing.{mask, depuncture, ficProfile}
 use Rattle.spec_trellis.specs.Trellis.{zeroEnd}
-use Rattle.en300401.proofs.Dispersal.{disperse-length, disperse-bits}
-use Rattle.en300401.proofs.Puncturing.{length-depuncture, fic-length}
+use Rattle.spec_en300401.proofs.Dispersal.{disperse-length, disperse-bits}
+use Rattle.spec_en300401.proofs.Puncturing.{length-depuncture, fic-length}
 use Rattle.refusal.specs.Outcome.{check, unlessRefused}
-use Rattle.protection.specs.declared.Judged.{Judged}
-use Rattle.depuncturing.specs.Promises.{DepuncturedFic}
-use Rattle.quality.specs.declared.Quality.{Quality}
-use Rattle.quality.specs.Figures.{qualityOf}
-use Rattle.viterbi.specs.Result.{Decodes, ChoiceWords}
-use Rattle.viterbi.proofs.Result.{decoded-length, decoded-bits}
+use Rattle.fec_protection.specs.declared.Judged.{Judged}
+use Rattle.fec_depuncturing.specs.Promises.{DepuncturedFic}
+use Rattle.fec_quality.specs.declared.Quality.{Quality}
+use Rattle.fec_quality.specs.Figures.{qualityOf}
+use Rattle.fec_viterbi.specs.Result.{Decodes, ChoiceWords}
+use Rattle.fec_viterbi.proofs.Result.{decoded-length, decoded-bits}
 use Rattle.fic_handler.specs.Blocks.{dataBits, countOf, passedBytes, Lent}
 use Rattle.fic_handler.specs.Code.{KeptFibs, BlockDecoded, BlockProcessed}
 

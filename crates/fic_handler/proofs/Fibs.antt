@@ -10,9 +10,9 @@ use lib.ListN.{length, take, drop, length-append, length-take, length-drop}
 use lib.Seq.{take-at, drop-at, drop-drop}
 use Rattle.laws.specs.Words.{pickN}
 use Rattle.laws.proofs.Words.{bit-lt}
-use Rattle.en300401.specs.Bytes.{bytesOfBits}
-use Rattle.en300401.specs.Crc.{fibValid}
-use Rattle.en300401.proofs.Bytes.{bytes-length}
+use Rattle.spec_en300401.specs.Bytes.{bytesOfBits}
+use Rattle.spec_en300401.specs.Crc.{fibValid}
+use Rattle.spec_en300401.proofs.Bytes.{bytes-length}
 use Rattle.fic_handler.specs.Blocks.{fibOf, good, passedBytes, countOf}
 use Rattle.fic_handler.specs.Code.{KeptFib, KeptFibs}
 

@@ -15,9 +15,9 @@ use lib.ListN.{length, getD, set, take, drop, length-set, length-append, length-
 use lib.Seq.{ext-getD, take-at, drop-at, drop-drop, getD-set-same, getD-set-other}
 use Rattle.laws.specs.Lists.{listFrom}
 use Rattle.laws.proofs.Lists.{length-listOf, listOf-at}
-use Rattle.quality.specs.declared.Quality.{Quality}
-use Rattle.quality.specs.Figures.{qualityOf, nothing}
-use Rattle.viterbi.proofs.Result.{decoded-length}
+use Rattle.fec_quality.specs.declared.Quality.{Quality}
+use Rattle.fec_quality.specs.Figures.{qualityOf, nothing}
+use Rattle.fec_viterbi.proofs.Result.{decoded-length}
 use Rattle.fic_handler.specs.Blocks.{blockOf, depuncturedBlock, dataBits, countOf, passedBytes, Block, IsBlock, Lent, lent, written, total}
 use Rattle.fic_handler.specs.Code.{BlockProcessed}
 use Rattle.fic_handler.specs.Promise.{four, workAfter}

@@ -11,8 +11,8 @@ use lib.IntN.{ℤ}
 use lib.ListN.{drop}
 use Rattle.laws.specs.Lists.{listFrom}
 use Rattle.refusal.specs.Outcome.{gives}
-use Rattle.quality.specs.Figures.{qualityOf, nothing}
-use Rattle.viterbi.proofs.Result.{bits-one, metric-one, words-one}
+use Rattle.fec_quality.specs.Figures.{qualityOf, nothing}
+use Rattle.fec_viterbi.proofs.Result.{bits-one, metric-one, words-one}
 use Rattle.fic_handler.specs.declared.Fic.{Fic}
 use Rattle.fic_handler.specs.declared.FicAnswer.{FicAnswer}
 use Rattle.fic_handler.specs.declared.FicAnswer.the-variants.{Fibs, Refused}

@@ -5,12 +5,12 @@ use Prim.Native.Nat.{ℕ, zero, suc, _+_, _*_, _/_}
 use lib.ListN.{length, take, drop}
 use lib.IntN.{ℤ}
 use Rattle.laws.specs.Words.{pickN}
-use Rattle.en300401.specs.Bytes.{bytesOfBits}
-use Rattle.en300401.specs.Crc.{fibValid}
-use Rattle.en300401.specs.Dispersal.{disperse}
-use Rattle.en300401.specs.Puncturing.{mask, depuncture, ficProfile}
+use Rattle.spec_en300401.specs.Bytes.{bytesOfBits}
+use Rattle.spec_en300401.specs.Crc.{fibValid}
+use Rattle.spec_en300401.specs.Dispersal.{disperse}
+use Rattle.spec_en300401.specs.Puncturing.{mask, depuncture, ficProfile}
 use Rattle.spec_trellis.specs.Trellis.{zeroEnd}
-use Rattle.viterbi.specs.Result.{Decodes, ChoiceWords}
+use Rattle.fec_viterbi.specs.Result.{Decodes, ChoiceWords}
 
 -- three symbols, joined in order
 abbrev pub joined : List ℤ → List ℤ → List ℤ → List ℤ

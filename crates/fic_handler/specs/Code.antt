@@ -6,13 +6,13 @@ use Prim.Native.Nat.{ℕ, _*_, _≤_}
 use lib.ListN.{length, drop}
 use lib.IntN.{ℤ}
 use Rattle.laws.specs.Words.{pickN}
-use Rattle.en300401.specs.Bytes.{bytesOfBits}
-use Rattle.en300401.specs.Crc.{fibValid}
-use Rattle.en300401.specs.Puncturing.{mask, depuncture, ficProfile}
+use Rattle.spec_en300401.specs.Bytes.{bytesOfBits}
+use Rattle.spec_en300401.specs.Crc.{fibValid}
+use Rattle.spec_en300401.specs.Puncturing.{mask, depuncture, ficProfile}
 use Rattle.spec_trellis.specs.Trellis.{zeroEnd}
-use Rattle.quality.specs.declared.Quality.{Quality}
-use Rattle.quality.specs.Figures.{qualityOf}
-use Rattle.viterbi.specs.Result.{Decodes, ChoiceWords}
+use Rattle.fec_quality.specs.declared.Quality.{Quality}
+use Rattle.fec_quality.specs.Figures.{qualityOf}
+use Rattle.fec_viterbi.specs.Result.{Decodes, ChoiceWords}
 use Rattle.fic_handler.specs.Blocks.{dataBits, passedBytes, countOf, Block, Lent}
 
 -- a FIB's bits, tested: packed into the start of the output if it passed, and else nothing

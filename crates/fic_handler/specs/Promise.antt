@@ -8,7 +8,7 @@ use lib.ListN.{length, drop}
 use lib.IntN.{ℤ}
 use Rattle.laws.specs.Lists.{listOf}
 use Rattle.refusal.specs.Outcome.{check, firstOf, Outcome, gives, refuses, outcome as outcomeBy, unlessRefused}
-use Rattle.quality.specs.Figures.{qualityOf, nothing}
+use Rattle.fec_quality.specs.Figures.{qualityOf, nothing}
 use Rattle.fic_handler.specs.declared.FicAnswer.{FicAnswer}
 use Rattle.fic_handler.specs.declared.FicAnswer.the-variants.{Fibs, Refused}
 use Rattle.fic_handler.specs.declared.Fic.{Fic}

@@ -5,19 +5,19 @@ ghost use Prim.Native.Nat.{_+_, _*_, _/_, _<_, _≤_};
 ghost use lib.ListN.{length, take, drop};
 ghost use Rattle.laws.specs.Bits.{AreBits};
 ghost use Rattle.laws.specs.Integers.{at};
-ghost use Rattle.en300401.specs.Bytes.{bytesOfBits};
-ghost use Rattle.viterbi.specs.Decoders.{metricOf};
+ghost use Rattle.spec_en300401.specs.Bytes.{bytesOfBits};
+ghost use Rattle.fec_viterbi.specs.Decoders.{metricOf};
 ghost use Rattle.fic_handler.specs.Blocks.{joined, lent};
 ghost use Rattle.fic_handler.specs.Code.{KeptFib, KeptFibs, BlockDecoded, BlockFits, BlockProcessed, BlocksFit};
 ghost use Rattle.fic_handler.specs.Promise.{Processed, Away, FicPromise};
-ghost use Rattle.quality.specs.Figures.{qualityOf};
-use quality::Measured;
-use quality::Quality;
+ghost use Rattle.fec_quality.specs.Figures.{qualityOf};
+use fec_quality::Measured;
+use fec_quality::Quality;
+use fec_viterbi::Decoding;
 use refusal::Refusal;
-use viterbi::Decoding;
 
 // Soft values of a symbol: two for each carrier.
-const SYMBOL: usize = 2 * crc::K;
+const SYMBOL: usize = 2 * fec_crc::K;
 
 pub enum FicAnswer {
     Fibs(usize),
@@ -74,7 +74,7 @@ fn pack_fib(bits: &[u8], out: &mut [u8])
     requires { ⌜ AreBits (now bits) ⌝ }
     ensures { λ r. ⌜ now (out .exit) ≡ bytesOfBits (now (bits .entry)) ++ drop 32 (now (out .entry)) ⌝ }
 {
-    packing::pack(bits, out);
+    fec_packing::pack(bits, out);
 }
 
 // Tests a FIB, and packs it only if it passed: how many FIBs passed, 1 or 0.
@@ -83,7 +83,7 @@ fn keep_fib(bits: &[u8], out: &mut [u8]) -> usize
     requires { ⌜ AreBits (now bits) ⌝ }
     ensures { λ r. ⌜ KeptFib (now (bits .entry)) (now (out .entry)) r (now (out .exit)) ⌝ }
 {
-    if !crc::check_crc_bits(bits) {
+    if !fec_crc::check_crc_bits(bits) {
         return 0;
     }
     pack_fib(bits, out);
@@ -128,10 +128,10 @@ fn quality_of(metric: i32, depunctured: &[i8]) -> Quality
     requires { ⌜ length (now depunctured) ≡ 3096 ⌝ }
     ensures { λ r. ⌜ r ≡ qualityOf metric (now (depunctured .entry)) ⌝ }
 {
-    let measured = quality::measure(metric, depunctured);
+    let measured = fec_quality::measure(metric, depunctured);
     match measured {
         Measured::Is(q) => q,
-        Measured::Refused(_) => quality::none(),
+        Measured::Refused(_) => fec_quality::none(),
     }
 }
 
@@ -140,8 +140,8 @@ fn decode_block(depunctured: &[i8], words: &mut [u64], bits: &mut [u8]) -> Quali
     requires { ⌜ (length (now depunctured) ≡ 3096) × ((774 ≤ length (now words)) × (774 ≤ length (now bits))) ⌝ }
     ensures { λ r. ⌜ BlockDecoded (now (depunctured .entry)) (now (words .entry)) (now (bits .entry)) r (now (words .exit)) (now (bits .exit)) ⌝ }
 {
-    let decoding = viterbi::viterbi_decode_state0(depunctured, &mut *words, &mut *bits);
-    energy_dispersal::energy_dispersal(&mut bits[0..768]);
+    let decoding = fec_viterbi::viterbi_decode_state0(depunctured, &mut *words, &mut *bits);
+    fec_dispersal::energy_dispersal(&mut bits[0..768]);
     quality_of(metric_of(decoding), depunctured)
 }
 
@@ -161,7 +161,7 @@ fn process_block(
         (r .quality)
         (lent (now (depunctured .exit)) (now (words .exit)) (now (bits .exit)) (now (fibs .exit))) ⌝ }
 {
-    depuncturing::depuncture_fic(block, &mut *depunctured);
+    fec_depuncturing::depuncture_fic(block, &mut *depunctured);
     let quality = decode_block(&depunctured[0..3096], &mut *words, &mut *bits);
     let passed = keep_fibs(&bits[0..768], &mut *fibs);
     BlockAnswer { passed, quality }
@@ -186,7 +186,7 @@ fn process_blocks(
         r
         (lent (now (depunctured .exit)) (now (words .exit)) (now (bits .exit)) (now (fibs .exit))) ⌝ }
 {
-    let absent = quality::none();
+    let absent = fec_quality::none();
     let mut passed = [0usize; 4];
     let mut quality = [absent; 4];
     let mut sum: usize = 0;
@@ -218,7 +218,7 @@ fn process_blocks(
 fn turned_away(number: u8) -> Fic
     ensures { λ r. ⌜ Away number r ⌝ }
 {
-    let absent = quality::none();
+    let absent = fec_quality::none();
     Fic {
         answer: FicAnswer::Refused(Refusal { number }),
         passed: [0; 4],

@@ -11,11 +11,11 @@ use lib.Seq.{take-at}
 use lib.IntN.{ℤ}
 use lib.Ieee.{Float}
 use Rattle.laws.proofs.Lists.{length-listOf}
-use Rattle.en300401.specs.Puncturing.{mask, depuncture}
-use Rattle.protection.specs.Refusals.{profileOf, roomOf}
+use Rattle.spec_en300401.specs.Puncturing.{mask, depuncture}
+use Rattle.fec_protection.specs.Refusals.{profileOf, roomOf}
 use Rattle.refusal.specs.Outcome.{gives, refuses, outcome, numberOf}
 use Rattle.refusal.proofs.Laws.{refused-by}
-use Rattle.viterbi.specs.Decoders.{endsOf}
+use Rattle.fec_viterbi.specs.Decoders.{endsOf}
 use Rattle.msc_handler.specs.declared.Answer.{Answer}
 use Rattle.msc_handler.specs.declared.Answer.the-variants.{Waiting, Frame, Refused}
 use Rattle.msc_state.specs.declared.Channel.{Channel}

@@ -10,19 +10,19 @@ use lib.IntN.{ℤ}
 use lib.Ieee.{Float}
 use Rattle.laws.specs.Bits.{AreBits}
 use Rattle.laws.proofs.Bits.{below-take}
-use Rattle.en300401.specs.Bytes.{bytesOfBits}
-use Rattle.en300401.specs.Dispersal.{disperse}
+use Rattle.spec_en300401.specs.Bytes.{bytesOfBits}
+use Rattle.spec_en300401.specs.Dispersal.{disperse}
 use Rattle.spec_trellis.specs.Trellis.{Ends}
-use Rattle.en300401.proofs.Dispersal.{disperse-length, disperse-bits}
-use Rattle.packing.specs.Bytes.{bytesOf, packed}
-use Rattle.packing.proofs.Answers.{packed-is}
-use Rattle.packing.proofs.Bits.{bytes-of-bits}
-use Rattle.quality.specs.Figures.{sumAbs, percentOf, measuredAs, measured}
-use Rattle.quality.specs.declared.Measured.{Measured}
-use Rattle.quality.proofs.Answers.{is-measured}
-use Rattle.viterbi.specs.Decoders.{steps, decodedAs, Decoded, metricOf}
-use Rattle.viterbi.specs.declared.Decoding.{Decoding}
-use Rattle.viterbi.proofs.Result.{Left, Finished, finished, bits-one, metric-one, words-one, decoded-length, decoded-bits}
+use Rattle.spec_en300401.proofs.Dispersal.{disperse-length, disperse-bits}
+use Rattle.fec_packing.specs.Bytes.{bytesOf, packed}
+use Rattle.fec_packing.proofs.Answers.{packed-is}
+use Rattle.fec_packing.proofs.Bits.{bytes-of-bits}
+use Rattle.fec_quality.specs.Figures.{sumAbs, percentOf, measuredAs, measured}
+use Rattle.fec_quality.specs.declared.Measured.{Measured}
+use Rattle.fec_quality.proofs.Answers.{is-measured}
+use Rattle.fec_viterbi.specs.Decoders.{steps, decodedAs, Decoded, metricOf}
+use Rattle.fec_viterbi.specs.declared.Decoding.{Decoding}
+use Rattle.fec_viterbi.proofs.Result.{Left, Finished, finished, bits-one, metric-one, words-one, decoded-length, decoded-bits}
 use Rattle.msc_handler.specs.Frames.{frameBits, Framed, FrameRoom, percentIn}
 use Rattle.msc_state.specs.States.{stepsOf}
 

@@ -16,9 +16,9 @@ use lib.IntN.{ℤ, pos}
 use Rattle.laws.specs.Integers.{at}
 use Rattle.laws.proofs.Lists.{listOf-at}
 use Rattle.laws.proofs.Pasted.{pasted-inside, pasted-else}
-use Rattle.en300401.specs.Interleaving.{cifBits, symbolBits, delay}
-use Rattle.en300401.proofs.Interleaving.{delay-lt}
-use Rattle.protection.specs.declared.Description.{Description}
+use Rattle.spec_en300401.specs.Interleaving.{cifBits, symbolBits, delay}
+use Rattle.spec_en300401.proofs.Interleaving.{delay-lt}
+use Rattle.fec_protection.specs.declared.Description.{Description}
 use Rattle.msc_set_up.specs.Promises.{cleared}
 use Rattle.msc_state.specs.declared.Channel.{Channel}
 use Rattle.msc_state.specs.States.{valuesOf, ringRoom, startedAt, freshState, mostFrames, channelAfter}

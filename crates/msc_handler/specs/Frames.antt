@@ -6,14 +6,14 @@ use Prim.Native.Nat.{ℕ, _+_, _*_, _≤_}
 use lib.ListN.{length, take, drop}
 use lib.IntN.{ℤ, pos}
 use lib.Ieee.{Float, fin}
-use Rattle.en300401.specs.Bytes.{bytesOfBits}
-use Rattle.en300401.specs.Dispersal.{disperse}
+use Rattle.spec_en300401.specs.Bytes.{bytesOfBits}
+use Rattle.spec_en300401.specs.Dispersal.{disperse}
 use Rattle.spec_trellis.specs.Trellis.{Ends}
 use Rattle.msc_state.specs.States.{stepsOf}
-use Rattle.quality.specs.Figures.{sumAbs, percentOf}
-use Rattle.quality.specs.declared.Measured.{Measured}
-use Rattle.quality.specs.declared.Measured.the-variants.{Is, «Refused» as not-measured}
-use Rattle.viterbi.specs.Result.{Decodes, ChoiceWords}
+use Rattle.fec_quality.specs.Figures.{sumAbs, percentOf}
+use Rattle.fec_quality.specs.declared.Measured.{Measured}
+use Rattle.fec_quality.specs.declared.Measured.the-variants.{Is, «Refused» as not-measured}
+use Rattle.fec_viterbi.specs.Result.{Decodes, ChoiceWords}
 
 -- the first 24 × bitrate of the decoded bits, dispersed afresh
 abbrev pub frameBits : ℕ → List ℕ → List ℕ

@@ -7,8 +7,8 @@ use lib.Dec.{ltb}
 use lib.ListN.{length, getD, take}
 use lib.IntN.{ℤ, pos}
 use Rattle.laws.specs.Integers.{at}
-use Rattle.en300401.specs.Interleaving.{symbolBits, cifSymbols, frameCifs, unitBits}
-use Rattle.protection.specs.declared.Description.{Description}
+use Rattle.spec_en300401.specs.Interleaving.{symbolBits, cifSymbols, frameCifs, unitBits}
+use Rattle.fec_protection.specs.declared.Description.{Description}
 use Rattle.msc_state.specs.declared.Channel.{Channel}
 use Rattle.msc_handler.specs.Ring.{inSlot}
 use Rattle.msc_state.specs.States.{valuesOf, mostFrames}

@@ -6,11 +6,11 @@ use Prim.Native.Nat.{ℕ, _*_}
 use lib.ListN.{length, drop}
 use lib.IntN.{ℤ}
 use lib.Ieee.{Float}
-use Rattle.en300401.specs.Puncturing.{mask, depuncture}
-use Rattle.protection.specs.declared.Description.{Description}
-use Rattle.protection.specs.Refusals.{profileOf, roomOf}
+use Rattle.spec_en300401.specs.Puncturing.{mask, depuncture}
+use Rattle.fec_protection.specs.declared.Description.{Description}
+use Rattle.fec_protection.specs.Refusals.{profileOf, roomOf}
 use Rattle.refusal.specs.Outcome.{Outcome, gives, refuses, outcome}
-use Rattle.viterbi.specs.Decoders.{endsOf}
+use Rattle.fec_viterbi.specs.Decoders.{endsOf}
 use Rattle.msc_handler.specs.declared.Answer.{Answer}
 use Rattle.msc_handler.specs.declared.Answer.the-variants.{Waiting, Frame, Refused}
 use Rattle.msc_state.specs.declared.Channel.{Channel}

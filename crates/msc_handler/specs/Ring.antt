@@ -6,7 +6,7 @@ use lib.Seq.{paste}
 use lib.IntN.{ℤ}
 use Rattle.laws.specs.Integers.{at}
 use Rattle.laws.specs.Lists.{listOf}
-use Rattle.en300401.specs.Interleaving.{delay, symbolBits}
+use Rattle.spec_en300401.specs.Interleaving.{delay, symbolBits}
 
 -- the CIF store once a symbol's first 3,072 values stand in its place
 unfoldable pub stored : List ℤ → ℕ → List ℤ → List ℤ

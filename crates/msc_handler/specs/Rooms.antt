@@ -4,9 +4,9 @@ use mathlib.Core.List.{List}
 use Prim.Native.Nat.{ℕ, _+_, _<_, _≤_}
 use lib.ListN.{length}
 use lib.IntN.{ℤ}
-use Rattle.en300401.specs.Interleaving.{units, cifBits}
-use Rattle.protection.specs.declared.Description.{Description}
-use Rattle.protection.specs.Refusals.{refusalOf, roomOf}
+use Rattle.spec_en300401.specs.Interleaving.{units, cifBits}
+use Rattle.fec_protection.specs.declared.Description.{Description}
+use Rattle.fec_protection.specs.Refusals.{refusalOf, roomOf}
 use Rattle.msc_state.specs.declared.Channel.{Channel}
 use Rattle.msc_handler.specs.Promises.{Buffers}
 use Rattle.msc_state.specs.States.{valuesOf, ringRoom, frameRoom, stepsOf}

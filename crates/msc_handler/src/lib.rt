@@ -1,20 +1,20 @@
 // MSC: symbols to CIFs, a sub-channel's stretch through the ring, frames (msc/mod.rs).
+use fec_protection::Description;
+use fec_quality::Measured;
+use fec_viterbi::Decoding;
 use msc_state::Channel;
 use msc_state::Lengths;
 use msc_state::State;
-use protection::Description;
-use quality::Measured;
-use viterbi::Decoding;
 ghost use mathlib.Core.Path.{_≡_};
 ghost use mathlib.Core.List.{_++_};
 ghost use Prim.Native.Nat.{_+_, _*_, _-_, _<_, _≤_};
 ghost use lib.ListN.{length, take, drop, set};
 ghost use lib.Seq.{paste};
 ghost use Rattle.laws.specs.Integers.{at};
-ghost use Rattle.en300401.specs.Interleaving.{delays};
-ghost use Rattle.en300401.specs.Puncturing.{mask, depuncture};
-ghost use Rattle.protection.specs.Refusals.{profileOf, roomOf};
-ghost use Rattle.viterbi.specs.Decoders.{endsOf, decodedAs, Decoded, metricOf};
+ghost use Rattle.spec_en300401.specs.Interleaving.{delays};
+ghost use Rattle.spec_en300401.specs.Puncturing.{mask, depuncture};
+ghost use Rattle.fec_protection.specs.Refusals.{profileOf, roomOf};
+ghost use Rattle.fec_viterbi.specs.Decoders.{endsOf, decodedAs, Decoded, metricOf};
 ghost use Rattle.msc_handler.specs.Frames.{Framed, FrameRoom, percentIn};
 ghost use Rattle.msc_handler.specs.Promises.{saidOf, stretchOf, delayed, buffers, CifPromise, FeedPromise};
 ghost use Rattle.msc_handler.specs.Ring.{slotOf, readOut, refilled, part};
@@ -90,9 +90,9 @@ fn decode(free: bool, soft: &[i8], words: &mut [u64], bits: &mut [u8]) -> Decodi
     ensures { λ r. ⌜ Decoded (endsOf free) (now (soft .entry)) (now (words .entry)) (now (bits .entry)) (decodedAs r) (now (words .exit)) (now (bits .exit)) ⌝ }
 {
     if free {
-        return viterbi::viterbi_decode_with_metric(soft, &mut *words, &mut *bits);
+        return fec_viterbi::viterbi_decode_with_metric(soft, &mut *words, &mut *bits);
     }
-    viterbi::viterbi_decode_state0(soft, &mut *words, &mut *bits)
+    fec_viterbi::viterbi_decode_state0(soft, &mut *words, &mut *bits)
 }
 
 fn metric_of(decoding: Decoding) -> i32
@@ -126,10 +126,10 @@ fn frame_of(
     ensures { λ r. ⌜ Framed (endsOf free) rate (now (soft .entry)) (now (words .entry)) (now (bits .entry)) (now (frame .entry)) r (now (words .exit)) (now (bits .exit)) (now (frame .exit)) ⌝ }
 {
     let decoding = decode(free, soft, &mut *words, &mut *bits);
-    let measured = quality::measure(metric_of(decoding), soft);
+    let measured = fec_quality::measure(metric_of(decoding), soft);
     let n = 24 * rate;
-    energy_dispersal::energy_dispersal(&mut bits[..n]);
-    packing::pack(&bits[..n], &mut *frame);
+    fec_dispersal::energy_dispersal(&mut bits[..n]);
+    fec_packing::pack(&bits[..n], &mut *frame);
     percent_in(measured)
 }
 
@@ -162,7 +162,7 @@ fn decode_frame(
     let n = 64 * (d.sub_size as usize);
     let rate = d.bitrate as usize;
     let m = 96 * rate + 24;
-    depuncturing::depuncture_msc(&deinterleaved[..n], d, &mut *depunctured);
+    fec_depuncturing::depuncture_msc(&deinterleaved[..n], d, &mut *depunctured);
     frame_of(
         d.is_eep,
         rate,

@@ -4,10 +4,10 @@ use mathlib.Core.Path.{_≡_, refl, sym, ap, ap₂, _∙_}
 use mathlib.Core.List.{List}
 use Prim.Native.Nat.{ℕ, zero, suc}
 use lib.IntN.{ℤ}
-use Rattle.protection.specs.declared.Description.{Description}
-use Rattle.protection.specs.declared.Judged.{Judged}
-use Rattle.protection.specs.declared.Judged.the-variants.{«Accepted» as judged-accepted, «Refused» as judged-refused}
-use Rattle.protection.proofs.Unique.{judged-unique}
+use Rattle.fec_protection.specs.declared.Description.{Description}
+use Rattle.fec_protection.specs.declared.Judged.{Judged}
+use Rattle.fec_protection.specs.declared.Judged.the-variants.{«Accepted» as judged-accepted, «Refused» as judged-refused}
+use Rattle.fec_protection.proofs.Unique.{judged-unique}
 use Rattle.refusal.specs.Outcome.{refuses, outcome, unlessRefused}
 use Rattle.msc_set_up.specs.declared.SetUp.{SetUp}
 use Rattle.msc_state.specs.declared.State.{State}

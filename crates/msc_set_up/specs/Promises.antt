@@ -4,8 +4,8 @@ use mathlib.Core.List.{List, _++_}
 use Prim.Native.Nat.{ℕ}
 use lib.ListN.{length, drop, replicate}
 use lib.IntN.{ℤ, pos}
-use Rattle.protection.specs.declared.Description.{Description}
-use Rattle.protection.specs.Answers.{judgedAs}
+use Rattle.fec_protection.specs.declared.Description.{Description}
+use Rattle.fec_protection.specs.Answers.{judgedAs}
 use Rattle.refusal.specs.Outcome.{outcome, unlessRefused}
 use Rattle.msc_state.specs.declared.State.{State}
 use Rattle.msc_state.specs.States.{ringRoom, setUpRefusal, resetRefusal, freshState, noDescription}

@@ -1,8 +1,8 @@
 // MSC: set-up and reset of a sub-channel's state and ring (msc/mod.rs).
+use fec_protection::Description;
+use fec_protection::Judged;
 use msc_state::Channel;
 use msc_state::State;
-use protection::Description;
-use protection::Judged;
 use refusal::Refusal;
 ghost use mathlib.Core.Path.{_≡_};
 ghost use Prim.Native.Nat.{_≤_};

@@ -5,8 +5,8 @@ use mathlib.Core.Bool.{false}
 use Prim.Native.Nat.{ℕ, _≤_}
 use borrow.Author.Tests.{ltb-false, eqb-true, not-false}
 use lib.Dec.{eqb, ltb}
-use Rattle.protection.specs.declared.Description.{Description}
-use Rattle.protection.specs.Refusals.{refusalOf, roomOf}
+use Rattle.fec_protection.specs.declared.Description.{Description}
+use Rattle.fec_protection.specs.Refusals.{refusalOf, roomOf}
 use Rattle.refusal.proofs.Checks.{none-of, off-at, clean, zeroed, later, held-not}
 use Rattle.msc_state.specs.declared.Lengths.{Lengths}
 use Rattle.msc_state.specs.declared.State.{State}

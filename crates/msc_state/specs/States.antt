@@ -3,9 +3,9 @@ use mathlib.Core.Bool.{Bool, false, cond, not}
 use mathlib.Core.List.{List, [], _∷_}
 use Prim.Native.Nat.{ℕ, _+_, _*_, _%_, _≤_, min}
 use lib.Dec.{eqb, ltb, leb}
-use Rattle.en300401.specs.Interleaving.{cifBits, symbolBits}
-use Rattle.protection.specs.declared.Description.{Description}
-use Rattle.protection.specs.Refusals.{refusalOf, roomOf}
+use Rattle.spec_en300401.specs.Interleaving.{cifBits, symbolBits}
+use Rattle.fec_protection.specs.declared.Description.{Description}
+use Rattle.fec_protection.specs.Refusals.{refusalOf, roomOf}
 use Rattle.refusal.specs.Outcome.{check, firstOf, anyOf}
 use Rattle.msc_state.specs.declared.Channel.{Channel}
 use Rattle.msc_state.specs.declared.Lengths.{Lengths}

@@ -1,9 +1,9 @@
 // The state of a sub-channel between symbols, and its refusals (msc/mod.rs).
-use protection::Description;
-use protection::Judged;
+use fec_protection::Description;
+use fec_protection::Judged;
 ghost use mathlib.Core.Path.{_≡_};
 ghost use mathlib.Core.Bool.{cond};
-ghost use Rattle.protection.specs.Refusals.{refusalOf};
+ghost use Rattle.fec_protection.specs.Refusals.{refusalOf};
 ghost use Rattle.msc_state.specs.States.{badState, tooShort, setUpRefusal, resetRefusal, feedRefusal};
 
 // What belongs to the sub-channel.
@@ -36,7 +36,7 @@ pub struct Lengths {
 fn description_refusal(d: Description) -> u8
     ensures { λ r. ⌜ r ≡ refusalOf d ⌝ }
 {
-    let judged = protection::judge(d);
+    let judged = fec_protection::judge(d);
     match judged {
         Judged::Accepted => 0,
         Judged::Refused(refusal) => refusal.number,

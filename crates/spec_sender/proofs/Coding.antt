@@ -9,13 +9,13 @@ use native.Mathlib.Nat.{not-suc-le-zero}
 use lib.ListN.{length, getD, take, drop, replicate, length-append, length-replicate, List·getD-append}
 use Rattle.laws.specs.Bits.{AreBits, AreBytes}
 use Rattle.laws.proofs.Lists.{length-listOf}
-use Rattle.en300401.specs.Bytes.{bitsOfBytes, bytesOfBits}
-use Rattle.en300401.specs.Dispersal.{disperse}
-use Rattle.en300401.specs.MotherCode.{codeWord}
-use Rattle.en300401.specs.Puncturing.{Region, mask, puncture, keptSize}
-use Rattle.en300401.proofs.Bytes.{bits-length, bits-of-bytes, bytes-back}
-use Rattle.en300401.proofs.Dispersal.{disperse-length, disperse-bits, disperse-twice}
-use Rattle.en300401.proofs.Puncturing.{length-puncture}
+use Rattle.spec_en300401.specs.Bytes.{bitsOfBytes, bytesOfBits}
+use Rattle.spec_en300401.specs.Dispersal.{disperse}
+use Rattle.spec_en300401.specs.MotherCode.{codeWord}
+use Rattle.spec_en300401.specs.Puncturing.{Region, mask, puncture, keptSize}
+use Rattle.spec_en300401.proofs.Bytes.{bits-length, bits-of-bytes, bytes-back}
+use Rattle.spec_en300401.proofs.Dispersal.{disperse-length, disperse-bits, disperse-twice}
+use Rattle.spec_en300401.proofs.Puncturing.{length-puncture}
 use Rattle.spec_sender.specs.Coding.{message, sent, padded}
 
 -- ---- the message

@@ -11,12 +11,12 @@ use lib.Seq.{take-at, drop-at, drop-drop, take-all}
 use store.Seg.{eqb-same}
 use Rattle.laws.specs.Bits.{numOf, AreBytes}
 use Rattle.laws.proofs.Bits.{below-nil, below-cons, below-append}
-use Rattle.en300401.specs.Bytes.{bitsOfBytes}
-use Rattle.en300401.specs.Crc.{crcWord, fibValid}
-use Rattle.en300401.specs.MotherCode.{codeWord}
-use Rattle.en300401.specs.Puncturing.{Region, regionMask, mask, puncture, ficProfile, keptSize}
-use Rattle.en300401.proofs.Bytes.{take-bits, drop-bits, two-bytes}
-use Rattle.en300401.proofs.Puncturing.{length-region, fic-length, fic-kept}
+use Rattle.spec_en300401.specs.Bytes.{bitsOfBytes}
+use Rattle.spec_en300401.specs.Crc.{crcWord, fibValid}
+use Rattle.spec_en300401.specs.MotherCode.{codeWord}
+use Rattle.spec_en300401.specs.Puncturing.{Region, regionMask, mask, puncture, ficProfile, keptSize}
+use Rattle.spec_en300401.proofs.Bytes.{take-bits, drop-bits, two-bytes}
+use Rattle.spec_en300401.proofs.Puncturing.{length-region, fic-length, fic-kept}
 use Rattle.spec_sender.specs.Coding.{message, sent}
 use Rattle.spec_sender.specs.Fic.{Data, withCrc, fibsOf, blockSent}
 use Rattle.spec_sender.proofs.Coding.{message-length, mask-length, word-length, sent-length, puncture-append}

@@ -7,12 +7,12 @@ use Prim.Native.Nat.{ℕ, _+_, _*_, _-_, _<_}
 use native.Mathlib.Omega.{arith}
 use borrow.Author.Tests.{le-leb, lt-ltb}
 use lib.ListN.{length, getD}
-use Rattle.en300401.specs.Interleaving.{delay, cifBits}
-use Rattle.en300401.specs.Puncturing.{mask, keptSize}
-use Rattle.en300401.proofs.Interleaving.{interleaved-at}
-use Rattle.protection.specs.declared.Description.{Description}
-use Rattle.protection.specs.Refusals.{profileOf, Accepted}
-use Rattle.protection.proofs.Accepted.{word-length, kept-fits, values-inside}
+use Rattle.spec_en300401.specs.Interleaving.{delay, cifBits}
+use Rattle.spec_en300401.specs.Puncturing.{mask, keptSize}
+use Rattle.spec_en300401.proofs.Interleaving.{interleaved-at}
+use Rattle.fec_protection.specs.declared.Description.{Description}
+use Rattle.fec_protection.specs.Refusals.{profileOf, Accepted}
+use Rattle.fec_protection.proofs.Accepted.{word-length, kept-fits, values-inside}
 use Rattle.spec_sender.specs.Coding.{message, sent}
 use Rattle.spec_sender.specs.Msc.{Sender, IsFrame, channelBits, frameSent, frameBit, sentBit, placeOf, cifBit}
 use Rattle.spec_sender.proofs.Coding.{message-length, mask-length, sent-length, padded-length, padded-front}

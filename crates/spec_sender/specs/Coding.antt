@@ -2,10 +2,10 @@
 use mathlib.Core.List.{List, _++_}
 use Prim.Native.Nat.{ℕ, _-_}
 use lib.ListN.{length, replicate}
-use Rattle.en300401.specs.Bytes.{bitsOfBytes}
-use Rattle.en300401.specs.Dispersal.{disperse}
-use Rattle.en300401.specs.MotherCode.{codeWord}
-use Rattle.en300401.specs.Puncturing.{Region, mask, puncture}
+use Rattle.spec_en300401.specs.Bytes.{bitsOfBytes}
+use Rattle.spec_en300401.specs.Dispersal.{disperse}
+use Rattle.spec_en300401.specs.MotherCode.{codeWord}
+use Rattle.spec_en300401.specs.Puncturing.{Region, mask, puncture}
 
 -- clause 10: the block's bits, high bit first, dispersed from the sequence's start
 unfoldable pub message : List ℕ → List ℕ

@@ -4,9 +4,9 @@ use mathlib.Core.List.{List, [], _∷_, _++_}
 use Prim.Native.Nat.{ℕ, _/_, _%_, _<_}
 use lib.ListN.{length}
 use Rattle.laws.specs.Bits.{AreBytes}
-use Rattle.en300401.specs.Bytes.{bitsOfBytes}
-use Rattle.en300401.specs.Crc.{crcWord}
-use Rattle.en300401.specs.Puncturing.{ficProfile}
+use Rattle.spec_en300401.specs.Bytes.{bitsOfBytes}
+use Rattle.spec_en300401.specs.Crc.{crcWord}
+use Rattle.spec_en300401.specs.Puncturing.{ficProfile}
 use Rattle.spec_sender.specs.Coding.{sent}
 
 -- the data of a block's three FIBs by their number, 30 bytes each

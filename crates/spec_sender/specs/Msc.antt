@@ -6,9 +6,9 @@ use Prim.Native.Nat.{ℕ, _+_, _*_, _-_}
 use lib.Dec.{ltb, leb}
 use lib.ListN.{length, getD}
 use Rattle.laws.specs.Bits.{AreBytes}
-use Rattle.en300401.specs.Interleaving.{interleaved, unitBits}
-use Rattle.protection.specs.declared.Description.{Description}
-use Rattle.protection.specs.Refusals.{profileOf}
+use Rattle.spec_en300401.specs.Interleaving.{interleaved, unitBits}
+use Rattle.fec_protection.specs.declared.Description.{Description}
+use Rattle.fec_protection.specs.Refusals.{profileOf}
 use Rattle.spec_sender.specs.Coding.{sent, padded}
 
 -- a sender: its frames by their number, and what else is in its CIFs, by CIF and place

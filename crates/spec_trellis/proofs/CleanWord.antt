@@ -14,14 +14,14 @@ use Rattle.laws.specs.Integers.{at}
 use Rattle.laws.proofs.Words.{bit-lt}
 use Rattle.spec_trellis.specs.Clean.{Agrees, sixZeros, sentPath, CleanWord}
 use Rattle.spec_trellis.specs.Theorems.{CleanIsDecoded}
-use Rattle.en300401.specs.MotherCode.{codeBit, codeWord}
-use Rattle.en300401.specs.Puncturing.{Region, mask, puncture, depuncture}
+use Rattle.spec_en300401.specs.MotherCode.{codeBit, codeWord}
+use Rattle.spec_en300401.specs.Puncturing.{Region, mask, puncture, depuncture}
 use Rattle.spec_trellis.specs.Trellis.{bitN, soft, scoreOf, Ends, Best, SamePath}
 use Rattle.spec_trellis.proofs.TrellisOrder.{best-unique}
 use Rattle.spec_trellis.proofs.MotherCode.{Spells, nothing, next, output-is, length-sent, sent-permitted, sent-bits, sent-spells}
 use Rattle.spec_trellis.proofs.Clean.{Fair, agrees-not-zero, Clean, none, step, weights, clean-score, clean-best}
-use Rattle.en300401.proofs.MotherCode.{word-at, length-word}
-use Rattle.en300401.proofs.Puncturing.{firsts-mask, first-kept}
+use Rattle.spec_en300401.proofs.MotherCode.{word-at, length-word}
+use Rattle.spec_en300401.proofs.Puncturing.{firsts-mask, first-kept}
 
 -- ---- the values
 

@@ -20,8 +20,8 @@ use Rattle.laws.proofs.Bits.{below-head, below-tail}
 use Rattle.laws.proofs.Lists.{length-listOf, listOf-at}
 use Rattle.laws.proofs.Tables.{rule-at}
 use Rattle.laws.proofs.Words.{bit-lt}
-use Rattle.en300401.specs.MotherCode.{earlier, x0, x1, x2, codeBit, codeWord}
-use Rattle.en300401.proofs.MotherCode.{word-at, length-word}
+use Rattle.spec_en300401.specs.MotherCode.{earlier, x0, x1, x2, codeBit, codeWord}
+use Rattle.spec_en300401.proofs.MotherCode.{word-at, length-word}
 use Rattle.spec_trellis.specs.Trellis.{bitN, isOdd, register, nextState, parity, outBit, endOf, Ends, zeroEnd, freeEnd, Permits}
 use Rattle.spec_trellis.specs.Clean.{sixZeros, sentPath}
 use Rattle.spec_trellis.specs.Theorems.{spelt, OutputIsCodeBit, outputsOf, PathIsCodeWord}

@@ -8,8 +8,8 @@ use lib.IntN.{ℤ, pos}
 use lib.Signed.{_<ℤ_}
 use Rattle.laws.specs.Bits.{AreBits}
 use Rattle.laws.specs.Integers.{at}
-use Rattle.en300401.specs.MotherCode.{codeWord}
-use Rattle.en300401.specs.Puncturing.{depuncture}
+use Rattle.spec_en300401.specs.MotherCode.{codeWord}
+use Rattle.spec_en300401.specs.Puncturing.{depuncture}
 use Rattle.spec_trellis.specs.Trellis.{isOdd}
 
 -- not 0, and of the bit's sign: negative for 0, positive for 1

@@ -10,8 +10,8 @@ use lib.Signed.{_<ℤ_}
 use mir.Syntax.{w32}
 use mir.Val.{SFits}
 use Rattle.laws.specs.Bits.{AreBits}
-use Rattle.en300401.specs.MotherCode.{codeBit, codeWord}
-use Rattle.en300401.specs.Puncturing.{depuncture}
+use Rattle.spec_en300401.specs.MotherCode.{codeBit, codeWord}
+use Rattle.spec_en300401.specs.Puncturing.{depuncture}
 use Rattle.spec_trellis.specs.Trellis.{bitN, outBit, Softs, branch, endOf, scoreOf, Wins, SamePath, Ends, Best, NoneAbove, BestInto, Subtracted}
 use Rattle.spec_trellis.specs.Clean.{sixZeros, sentPath, CleanWord}
 

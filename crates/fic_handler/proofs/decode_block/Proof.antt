@@ -10,14 +10,14 @@ use lib.ListN.{length, take, drop}
 use lib.Seq.{take-append-le, drop-append-le}
 use mir.Syntax.{w32}
 use Rattle.laws.proofs.Machine.{back}
-use Rattle.en300401.specs.Dispersal.{disperse}
+use Rattle.spec_en300401.specs.Dispersal.{disperse}
 use Rattle.spec_trellis.specs.Trellis.{zeroEnd}
-use Rattle.quality.specs.declared.Quality.{Quality}
-use Rattle.quality.specs.Figures.{qualityOf}
-use Rattle.viterbi.specs.declared.Decoding.{Decoding}
-use Rattle.viterbi.specs.Decoders.{decodedAs, Decoded, metricOf}
-use Rattle.viterbi.specs.Result.{Decodes, ChoiceWords}
-use Rattle.viterbi.proofs.Result.{Finished, finished, decoded-length}
+use Rattle.fec_quality.specs.declared.Quality.{Quality}
+use Rattle.fec_quality.specs.Figures.{qualityOf}
+use Rattle.fec_viterbi.specs.declared.Decoding.{Decoding}
+use Rattle.fec_viterbi.specs.Decoders.{decodedAs, Decoded, metricOf}
+use Rattle.fec_viterbi.specs.Result.{Decodes, ChoiceWords}
+use Rattle.fec_viterbi.proofs.Result.{Finished, finished, decoded-length}
 use Rattle.fic_handler.specs.Blocks.{dataBits}
 use Rattle.fic_handler.specs.Code.{BlockDecoded}
 use Rattle.fic_handler.proofs.decode_block.Statement.{statement}

@@ -9,10 +9,10 @@ use borrow.Author.Tests.{not-true, not-false}
 use lib.ListN.{length, drop}
 use Rattle.laws.specs.Bits.{AreBits}
 use Rattle.laws.specs.Words.{pickN}
-use Rattle.en300401.specs.Bytes.{bytesOfBits}
-use Rattle.en300401.specs.Crc.{fibValid}
-use Rattle.crc.specs.Tests.{bitTest}
-use Rattle.crc.proofs.Agree.{bit-is}
+use Rattle.spec_en300401.specs.Bytes.{bytesOfBits}
+use Rattle.spec_en300401.specs.Crc.{fibValid}
+use Rattle.fec_crc.specs.Tests.{bitTest}
+use Rattle.fec_crc.proofs.Agree.{bit-is}
 use Rattle.fic_handler.specs.Code.{KeptFib}
 use Rattle.fic_handler.proofs.keep_fib.Statement.{statement}
 use Rattle.fic_handler.proofs.keep_fib.Tie as tie

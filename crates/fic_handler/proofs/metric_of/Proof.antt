@@ -4,7 +4,7 @@ use borrow.Author.Needs.{needs}
 use mathlib.Core.Path.{sym, ap}
 use mir.Syntax.{w32}
 use Rattle.laws.proofs.Machine.{back}
-use Rattle.viterbi.specs.Decoders.{metricOf}
+use Rattle.fec_viterbi.specs.Decoders.{metricOf}
 use Rattle.fic_handler.proofs.metric_of.Statement.{statement}
 use Rattle.fic_handler.proofs.metric_of.Tie as tie
 

@@ -7,10 +7,10 @@ use Prim.Native.Nat.{ℕ, _/_, _≤_}
 use native.Mathlib.Omega.{arith}
 use lib.ListN.{length, drop}
 use Rattle.laws.specs.Bits.{AreBits}
-use Rattle.en300401.specs.Bytes.{bytesOfBits}
-use Rattle.packing.specs.Bytes.{bytesOf, packed}
-use Rattle.packing.proofs.Bits.{as-bits}
-use Rattle.packing.proofs.Answers.{packed-is}
+use Rattle.spec_en300401.specs.Bytes.{bytesOfBits}
+use Rattle.fec_packing.specs.Bytes.{bytesOf, packed}
+use Rattle.fec_packing.proofs.Bits.{as-bits}
+use Rattle.fec_packing.proofs.Answers.{packed-is}
 use Rattle.fic_handler.proofs.pack_fib.Statement.{statement}
 use Rattle.fic_handler.proofs.pack_fib.Tie as tie
 

@@ -12,7 +12,7 @@ use mir.Val.{Fits}
 use lib.ListN.{length, set, take, drop, length-append, length-take, length-drop}
 use Rattle.laws.specs.Lists.{listFrom}
 use Rattle.laws.proofs.Slices.{tail-part, tail-put}
-use Rattle.quality.specs.declared.Quality.{Quality}
+use Rattle.fec_quality.specs.declared.Quality.{Quality}
 use Rattle.fic_handler.specs.Blocks.{joined, blockOf, dataBits, written, Lent, lent}
 use Rattle.fic_handler.specs.Code.{BlockProcessed, BlocksFit}
 use Rattle.fic_handler.specs.Promise.{Processed}

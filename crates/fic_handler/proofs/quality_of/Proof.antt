@@ -6,9 +6,9 @@ use Prim.Native.Nat.{ℕ}
 use native.Mathlib.Omega.{arith}
 use lib.IntN.{ℤ}
 use mir.Facts.{toZ-ofZ}
-use Rattle.quality.specs.declared.Measured.the-variants.{Is}
-use Rattle.quality.specs.Figures.{qualityOf, measured}
-use Rattle.quality.proofs.Answers.{is-measured}
+use Rattle.fec_quality.specs.declared.Measured.the-variants.{Is}
+use Rattle.fec_quality.specs.Figures.{qualityOf, measured}
+use Rattle.fec_quality.proofs.Answers.{is-measured}
 use Rattle.fic_handler.proofs.quality_of.Statement.{statement}
 use Rattle.fic_handler.proofs.quality_of.Tie as tie
 

@@ -2,7 +2,7 @@
 -- Assumes nothing.
 use mathlib.Core.Path.{sym, subst}
 use mathlib.Core.Bool.{Bool}
-use Rattle.viterbi.specs.Decoders.{endsOf, decodedAs, Decoded}
+use Rattle.fec_viterbi.specs.Decoders.{endsOf, decodedAs, Decoded}
 use borrow.Author.Needs.{needs}
 use Rattle.msc_handler.proofs.decode.Statement.{statement}
 use Rattle.msc_handler.proofs.decode.Tie as tie

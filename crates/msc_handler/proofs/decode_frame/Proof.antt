@@ -8,13 +8,13 @@ use native.Mathlib.Omega.{arith}
 use lib.IntN.{ℤ}
 use lib.ListN.{length, take, drop}
 use lib.Seq.{length-take-le, take-at}
-use Rattle.en300401.specs.Puncturing.{mask, depuncture}
-use Rattle.en300401.proofs.Puncturing.{length-depuncture}
+use Rattle.spec_en300401.specs.Puncturing.{mask, depuncture}
+use Rattle.spec_en300401.proofs.Puncturing.{length-depuncture}
 use Rattle.refusal.specs.Outcome.{unlessRefused}
-use Rattle.protection.specs.Refusals.{profileOf, roomOf}
-use Rattle.protection.proofs.Profiles.{accepted-length, accepted-rate}
-use Rattle.depuncturing.proofs.Depunctures.{long-enough}
-use Rattle.viterbi.specs.Decoders.{endsOf}
+use Rattle.fec_protection.specs.Refusals.{profileOf, roomOf}
+use Rattle.fec_protection.proofs.Profiles.{accepted-length, accepted-rate}
+use Rattle.fec_depuncturing.proofs.Depunctures.{long-enough}
+use Rattle.fec_viterbi.specs.Decoders.{endsOf}
 use Rattle.msc_handler.specs.Frames.{Framed}
 use Rattle.msc_state.specs.States.{valuesOf, stepsOf}
 use Rattle.msc_handler.proofs.decode_frame.Statement.{statement}

@@ -13,7 +13,7 @@ use Rattle.laws.specs.Integers.{at}
 use Rattle.laws.proofs.Lists.{length-listOf, listOf-at}
 use Rattle.laws.proofs.Machine.{back}
 use Rattle.laws.proofs.Slices.{filled}
-use Rattle.en300401.specs.Interleaving.{delays}
+use Rattle.spec_en300401.specs.Interleaving.{delays}
 use Rattle.msc_handler.specs.Ring.{inSlot, slotOf, readOut, refilled}
 use Rattle.laws.proofs.Pasted.{pasted-next, pasted-else}
 use Rattle.msc_handler.proofs.Ring.{slot-end, apart}

@@ -8,7 +8,7 @@ use lib.Seq.{length-take-le}
 use lib.IntN.{ℤ}
 use mir.Syntax.{w32}
 use Rattle.laws.proofs.Machine.{back}
-use Rattle.quality.specs.Figures.{measured}
+use Rattle.fec_quality.specs.Figures.{measured}
 use Rattle.msc_handler.proofs.Frames.{framed-by}
 use borrow.Author.Needs.{needs}
 use Rattle.msc_handler.proofs.frame_of.Statement.{statement}

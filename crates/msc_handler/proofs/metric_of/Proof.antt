@@ -2,7 +2,7 @@
 -- Assumes nothing.
 use mathlib.Core.Path.{sym, ap, _∙_}
 use mir.Facts.{toZ-ofZ}
-use Rattle.viterbi.specs.Decoders.{metricOf}
+use Rattle.fec_viterbi.specs.Decoders.{metricOf}
 use borrow.Author.Needs.{needs}
 use Rattle.msc_handler.proofs.metric_of.Statement.{statement}
 use Rattle.msc_handler.proofs.metric_of.Tie as tie

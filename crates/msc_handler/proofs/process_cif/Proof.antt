@@ -3,7 +3,7 @@
 use borrow.Author.Needs.{needs}
 use native.Mathlib.Omega.{arith}
 use Rattle.msc_handler.specs.Promises.{Buffers, buffers}
-use Rattle.protection.proofs.Profiles.{accepted-place}
+use Rattle.fec_protection.proofs.Profiles.{accepted-place}
 use Rattle.msc_handler.proofs.Feeding.{cif-waits, cif-frames}
 use Rattle.msc_handler.proofs.process_cif.Statement.{statement}
 use Rattle.msc_handler.proofs.process_cif.Tie as tie

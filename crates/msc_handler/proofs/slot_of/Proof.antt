@@ -5,7 +5,7 @@ use mathlib.Core.List.{List}
 use Prim.Native.Nat.{ℕ, _+_, _%_}
 use native.Mathlib.Omega.{arith}
 use lib.ListN.{getD}
-use Rattle.en300401.proofs.Interleaving.{delay-lt}
+use Rattle.spec_en300401.proofs.Interleaving.{delay-lt}
 use borrow.Author.Needs.{needs}
 use Rattle.msc_handler.proofs.slot_of.Statement.{statement}
 use Rattle.msc_handler.proofs.slot_of.Tie as tie

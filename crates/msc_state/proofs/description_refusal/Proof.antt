@@ -2,8 +2,8 @@
 -- Assumes nothing.
 use borrow.Author.Needs.{needs}
 use mathlib.Core.Path.{sym, ap, _∙_}
-use Rattle.protection.specs.Refusals.{refusalOf}
-use Rattle.protection.specs.Answers.{judgedAs}
+use Rattle.fec_protection.specs.Refusals.{refusalOf}
+use Rattle.fec_protection.specs.Answers.{judgedAs}
 use Rattle.refusal.proofs.Laws.{given-number, refused-number}
 use Rattle.msc_state.proofs.description_refusal.Statement.{statement}
 use Rattle.msc_state.proofs.description_refusal.Tie as tie
