@@ -18,7 +18,7 @@ use Rattle.refusal.proofs.Laws.{orElse-assoc, orElse-zero, or-either, first-app
 use Rattle.fec_quality.specs.declared.Quality.{Quality}
 use Rattle.fic_handler.specs.declared.Fic.{Fic}
 use Rattle.fic_handler.specs.Blocks.{joined, blocksIn, Lent}
-use Rattle.fic_handler.specs.Promise.{tooLong, noRoom, processRefusal, answerOf, Outcomes, FicPromise}
+use Rattle.fic_handler.specs.Promise.{tooLong, tooFew, processRefusal, answerOf, Outcomes, FicPromise}
 use Rattle.c_description.specs.Places.{short}
 use Rattle.c_fic.specs.Code.{fewOf, noFigures, firstFour, PutQuality, countsPut, pastEnd, PutAll, EnoughFigures, FiguresPut, FiguresTold}
 use Rattle.c_fic.specs.Fic.{Figures, fewFigures, ficNumber, fibsIn, metricsOf, percentsOf, FicUntouched, FicWritten, FicCall}
@@ -69,10 +69,10 @@ enough-figures f e =
 
 -- then the number is 11 where a symbol is too long, and else 8 whatever the handler's own buffers are
 no-figures-number : (a b c : List ℤ) (l : Lent) (f : Figures) → fewFigures f ≡ 8 → noFigures a b c ≡ ficNumber a b c l f
-unfolding ficNumber processRefusal noRoom
+unfolding ficNumber processRefusal tooFew
 no-figures-number a b c l f e =
     let over = tooLong a ∷ tooLong b ∷ tooLong c ∷ [] in
-    let lent = noRoom (blocksIn (joined a b c)) l in
+    let lent = tooFew (blocksIn (joined a b c)) l in
     let each = same-check (ltb (length (l .depunctured)) 3096) (same-check (ltb (length (l .words)) 774) (same-check (ltb (length (l .bits)) 774) (same-check (ltb (length (l .fibs)) (96 * blocksIn (joined a b c))) no-more))) in
     sym
     (ap (orElse (processRefusal a b c l)) e ∙ ap (λ (n : ℕ). orElse n 8) (first-append over lent) ∙ orElse-assoc (firstOf over) (firstOf lent) 8

@@ -16,7 +16,7 @@ use Rattle.fec_protection.specs.declared.Description.{Description}
 use Rattle.fec_protection.specs.Answers.{judgedAs}
 use Rattle.fec_protection.specs.Refusals.{refusalOf}
 use Rattle.msc_state.specs.declared.State.{State}
-use Rattle.msc_state.specs.States.{ringRoom, freshState, setUpRefusal, resetRefusal}
+use Rattle.msc_state.specs.States.{ringLength, freshState, setUpRefusal, resetRefusal}
 use Rattle.msc_set_up.specs.declared.SetUp.{SetUp}
 use Rattle.msc_set_up.specs.Promises.{Prepared, ResetPromise, cleared}
 use Rattle.c_description.specs.Places.{short, Wrote}
@@ -55,10 +55,10 @@ accepted-eight n k e z = sym (or-other n 8 (sym e ∙ z))
 no-state-is : (d : Description) (ring state : ℕ) → state < 11 → noState d ≡ setUpNumber d ring state
 unfolding setUpNumber setUpRefusal
 no-state-is d ring state h =
-    let ringless = orElse (short (ringRoom d) ring) 0 in
+    let ringless = orElse (short (ringLength d) ring) 0 in
     sym
     (ap (λ (m : ℕ). orElse (orElse (refusalOf d) ringless) m) (rw (lt-ltb _ _ h) refl) ∙ orElse-assoc (refusalOf d) ringless 8
-    ∙ ap (orElse (refusalOf d)) (passed-by 7 (same-check (ltb ring (ringRoom d)) no-more)))
+    ∙ ap (orElse (refusalOf d)) (passed-by 7 (same-check (ltb ring (ringLength d)) no-more)))
 
 -- refused before anything is touched
 turned-away : {d : Description} {ring : List ℤ} {state : List ℕ} (n k : ℕ) → k ≡ n → (n ≡ 0 → ⊥) → Readied n d ring state k ring state

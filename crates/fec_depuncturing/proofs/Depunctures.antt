@@ -25,14 +25,14 @@ use Rattle.fec_protection.specs.Params.{paramsOf}
 use Rattle.fec_depuncturing.specs.Promises.{mscRefusalOf, DepuncturePromise, DepuncturedMsc}
 use Rattle.fec_depuncturing.specs.Code.{Fillable}
 use Rattle.fec_protection.specs.Promises.{JudgePromise}
-use Rattle.fec_protection.specs.Refusals.{refusalOf, Accepted, roomOf, profileOf}
+use Rattle.fec_protection.specs.Refusals.{refusalOf, Accepted, depuncturedLength, profileOf}
 use Rattle.fec_protection.proofs.Accepted.{refused-from}
 use Rattle.fec_protection.proofs.Params.{mask-by, mother-by, params-vectors}
 
 -- 1 to 8: 1 to 7, or else 8
-pub msc-split : (d : Description) (long : ℕ) → mscRefusalOf d long ≡ orElse (refusalOf d) (check 8 (ltb long (roomOf d)))
+pub msc-split : (d : Description) (long : ℕ) → mscRefusalOf d long ≡ orElse (refusalOf d) (check 8 (ltb long (depuncturedLength d)))
 unfolding mscRefusalOf
-msc-split d long = ap (orElse (refusalOf d)) (orElse-zero (check 8 (ltb long (roomOf d))))
+msc-split d long = ap (orElse (refusalOf d)) (orElse-zero (check 8 (ltb long (depuncturedLength d))))
 
 -- the code's params of a profile are fillable where its mask is no longer than the output
 pub params-fillable : (rs : List Region) → Usable rs → (long : ℕ) → length (mask rs) ≤ long → Fillable (paramsOf rs) long
@@ -65,21 +65,21 @@ module _ (d : Description) (soft before : List ℤ) where
   pub msc-refused : (x : Refusal) {j : Judged} → JudgePromise d j → j ≡ judged-refused x → DepuncturedMsc d soft before before (judged-refused x)
   msc-refused x {j} e q =
       record {
-        answer = first-refused (refusalOf d) (check 8 (ltb (length before) (roomOf d))) tt tt (x .number) r ∙ ap (λ (m : ℕ). outcome m tt) (sym (msc-split d (length before)));
-        places = still (refusalOf d) r ∙ ap (λ (m : ℕ). unlessRefused m (depuncture (mask (profileOf d)) soft ++ drop (roomOf d) before) before) (sym (msc-split d (length before)));
+        answer = first-refused (refusalOf d) (check 8 (ltb (length before) (depuncturedLength d))) tt tt (x .number) r ∙ ap (λ (m : ℕ). outcome m tt) (sym (msc-split d (length before)));
+        places = still (refusalOf d) r ∙ ap (λ (m : ℕ). unlessRefused m (depuncture (mask (profileOf d)) soft ++ drop (depuncturedLength d) before) before) (sym (msc-split d (length before)));
       }
     where
       r : _≡_ {A = Outcome (Unit {0})} (refuses (x .number)) (outcome (refusalOf d) tt)
       r = sym (refused-from d e (ap judgedAs q))
 
-      still : (n : ℕ) → _≡_ {A = Outcome (Unit {0})} (refuses (x .number)) (outcome n tt) → before ≡ unlessRefused (orElse n (check 8 (ltb (length before) (roomOf d)))) (depuncture (mask (profileOf d)) soft ++ drop (roomOf d) before) before
+      still : (n : ℕ) → _≡_ {A = Outcome (Unit {0})} (refuses (x .number)) (outcome n tt) → before ≡ unlessRefused (orElse n (check 8 (ltb (length before) (depuncturedLength d)))) (depuncture (mask (profileOf d)) soft ++ drop (depuncturedLength d) before) before
       still zero w = let z : _≡_ {A = ℕ} 0 1 = cc in absurd (omega arith)
       still (suc n) w = refl
 
   -- accepted by 1 to 7: 8, or no refusal
   module _ (ok : Accepted d) where
-    pub too-short : length before < roomOf d → mscRefusalOf d (length before) ≡ 8
-    too-short h = msc-split d (length before) ∙ ap (λ (m : ℕ). orElse m (check 8 (ltb (length before) (roomOf d)))) ok ∙ ap (check 8) (lt-ltb (length before) (roomOf d) h)
+    pub too-short : length before < depuncturedLength d → mscRefusalOf d (length before) ≡ 8
+    too-short h = msc-split d (length before) ∙ ap (λ (m : ℕ). orElse m (check 8 (ltb (length before) (depuncturedLength d)))) ok ∙ ap (check 8) (lt-ltb (length before) (depuncturedLength d) h)
 
-    pub long-enough : roomOf d ≤ length before → mscRefusalOf d (length before) ≡ 0
-    long-enough h = msc-split d (length before) ∙ ap (λ (m : ℕ). orElse m (check 8 (ltb (length before) (roomOf d)))) ok ∙ ap (check 8) (le-ltb (length before) (roomOf d) h)
+    pub long-enough : depuncturedLength d ≤ length before → mscRefusalOf d (length before) ≡ 0
+    long-enough h = msc-split d (length before) ∙ ap (λ (m : ℕ). orElse m (check 8 (ltb (length before) (depuncturedLength d)))) ok ∙ ap (check 8) (le-ltb (length before) (depuncturedLength d) h)

@@ -10,11 +10,11 @@ use Rattle.refusal.specs.Outcome.{outcome, unlessRefused, check, firstOf}
 use Rattle.fec_protection.specs.declared.Description.{Description}
 use Rattle.fec_protection.specs.declared.Judged.{Judged}
 use Rattle.fec_protection.specs.Answers.{judgedAs}
-use Rattle.fec_protection.specs.Refusals.{profileOf, refusalOf, roomOf}
+use Rattle.fec_protection.specs.Refusals.{profileOf, refusalOf, depuncturedLength}
 
 -- the first refusal of a description and an output of some length: 1 to 7 of the description, then 8
 unfoldable pub mscRefusalOf : Description → ℕ → ℕ
-mscRefusalOf d long = firstOf (refusalOf d ∷ check 8 (ltb long (roomOf d)) ∷ [])
+mscRefusalOf d long = firstOf (refusalOf d ∷ check 8 (ltb long (depuncturedLength d)) ∷ [])
 
 -- 8 of the FIC
 abbrev pub ficRefusalOf : ℕ → ℕ
@@ -26,7 +26,7 @@ pub record DepuncturePromise (n need : ℕ) (profile : List Region) (soft before
   pub places : after ≡ unlessRefused n (depuncture (mask profile) soft ++ drop need before) before
 
 abbrev pub DepuncturedMsc : Description → List ℤ → List ℤ → List ℤ → Judged → Type 0
-DepuncturedMsc d soft before after r = DepuncturePromise (mscRefusalOf d (length before)) (roomOf d) (profileOf d) soft before after r
+DepuncturedMsc d soft before after r = DepuncturePromise (mscRefusalOf d (length before)) (depuncturedLength d) (profileOf d) soft before after r
 
 abbrev pub DepuncturedFic : List ℤ → List ℤ → List ℤ → Judged → Type 0
 DepuncturedFic soft before after r = DepuncturePromise (ficRefusalOf (length before)) 3096 ficProfile soft before after r

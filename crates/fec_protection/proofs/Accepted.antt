@@ -24,7 +24,7 @@ use Rattle.fec_protection.specs.declared.Lookup.{Lookup}
 use Rattle.fec_protection.specs.Answers.{judgedAs}
 use Rattle.fec_protection.specs.Params.{paramsOf}
 use Rattle.fec_protection.specs.Promises.{JudgePromise, RowPromise}
-use Rattle.fec_protection.specs.Refusals.{isNone, profileOf, eepRow, uepNone, rowRefusals, rowRefusalOf, refusalOf, judgement, Accepted, RefusedBy, isRefused, roomOf}
+use Rattle.fec_protection.specs.Refusals.{isNone, profileOf, eepRow, uepNone, rowRefusals, rowRefusalOf, refusalOf, judgement, Accepted, RefusedBy, isRefused, depuncturedLength}
 use Rattle.fec_protection.proofs.Profiles.{row-of-accepted, accepted-place, accepted-size, accepted-length, accepted-rate, profile-usable, needed-fours}
 
 -- ---- when it is accepted
@@ -121,7 +121,7 @@ module _ (d : Description) (ok : Accepted d) where
   rate-bound = accepted-rate d (rate-fits d ok) ok
 
   -- the mother code word: 96 places for each kbit/s, and the tail
-  pub word-length : length (mask (profileOf d)) ≡ roomOf d
+  pub word-length : length (mask (profileOf d)) ≡ depuncturedLength d
   word-length = accepted-length d (rate-fits d ok) ok
 
   -- at most four regions, short ones, under the vectors

@@ -76,5 +76,5 @@ abbrev pub isRefused : Description → Bool
 isRefused d = not (eqb (refusalOf d) 0)
 
 -- 96 × bitrate + 24: the needed length of what is depunctured
-abbrev pub roomOf : Description → ℕ
-roomOf d = 96 * d .bitrate + 24
+abbrev pub depuncturedLength : Description → ℕ
+depuncturedLength d = 96 * d .bitrate + 24

@@ -9,7 +9,7 @@ use lib.ListN.{length}
 use Rattle.refusal.specs.Outcome.{outcome}
 use Rattle.fic_handler.specs.declared.Fic.{Fic}
 use Rattle.fic_handler.specs.Blocks.{joined, blocksIn, Lent, total}
-use Rattle.fic_handler.specs.Promise.{tooLong, noRoom, processRefusal, Away, Outcomes, Processed, FicPromise}
+use Rattle.fic_handler.specs.Promise.{tooLong, tooFew, processRefusal, Away, Outcomes, Processed, FicPromise}
 
 module _ (s1 s2 s3 : List ℤ) (l : Lent) where
   pub first-long : 3072 < length s1 → processRefusal s1 s2 s3 l ≡ 11
@@ -26,23 +26,23 @@ module _ (s1 s2 s3 : List ℤ) (l : Lent) where
 
   module _ (a : length s1 ≤ 3072) (b : length s2 ≤ 3072) (c : length s3 ≤ 3072) where
     pub no-depunctured : length (l .depunctured) < 3096 → processRefusal s1 s2 s3 l ≡ 8
-    unfolding processRefusal tooLong noRoom
+    unfolding processRefusal tooLong tooFew
     no-depunctured d = simp (le-ltb _ _ a, le-ltb _ _ b, le-ltb _ _ c, lt-ltb _ _ d)
 
     pub no-words : 3096 ≤ length (l .depunctured) → length (l .words) < 774 → processRefusal s1 s2 s3 l ≡ 8
-    unfolding processRefusal tooLong noRoom
+    unfolding processRefusal tooLong tooFew
     no-words d w = simp (le-ltb _ _ a, le-ltb _ _ b, le-ltb _ _ c, le-ltb _ _ d, lt-ltb _ _ w)
 
     pub no-bits : 3096 ≤ length (l .depunctured) → 774 ≤ length (l .words) → length (l .bits) < 774 → processRefusal s1 s2 s3 l ≡ 8
-    unfolding processRefusal tooLong noRoom
+    unfolding processRefusal tooLong tooFew
     no-bits d w e = simp (le-ltb _ _ a, le-ltb _ _ b, le-ltb _ _ c, le-ltb _ _ d, le-ltb _ _ w, lt-ltb _ _ e)
 
     pub no-fibs : 3096 ≤ length (l .depunctured) → 774 ≤ length (l .words) → 774 ≤ length (l .bits) → length (l .fibs) < 96 * blocksIn (joined s1 s2 s3) → processRefusal s1 s2 s3 l ≡ 8
-    unfolding processRefusal tooLong noRoom
+    unfolding processRefusal tooLong tooFew
     no-fibs d w e f = simp (le-ltb _ _ a, le-ltb _ _ b, le-ltb _ _ c, le-ltb _ _ d, le-ltb _ _ w, le-ltb _ _ e, lt-ltb _ _ f)
 
     pub no-refusal : 3096 ≤ length (l .depunctured) → 774 ≤ length (l .words) → 774 ≤ length (l .bits) → 96 * blocksIn (joined s1 s2 s3) ≤ length (l .fibs) → processRefusal s1 s2 s3 l ≡ 0
-    unfolding processRefusal tooLong noRoom
+    unfolding processRefusal tooLong tooFew
     no-refusal d w e f = simp (le-ltb _ _ a, le-ltb _ _ b, le-ltb _ _ c, le-ltb _ _ d, le-ltb _ _ w, le-ltb _ _ e, le-ltb _ _ f)
 
   pub away : {k : ℕ} {r : Fic} → processRefusal s1 s2 s3 l ≡ suc k → Away (suc k) r → FicPromise s1 s2 s3 l r l

@@ -133,7 +133,7 @@ unfolding workAfter
 rest-bits xs k zero before e = refl
 rest-bits xs k (suc n) before e = drop-at (dataBits (k n .decoded) ++ drop 768 (k n .decoded)) (drop 774 (before .bits)) 774 (bits-length (e n (omega arith)))
 
--- the lent memory after a block that wrote its FIBs from byte 32 sum on
+-- the caller's buffers after a block that wrote its FIBs from byte 32 sum on
 abbrev pub behind : Lent → ℕ → Lent
 behind l sum = lent (l .depunctured) (l .words) (l .bits) (drop (32 * sum) (l .fibs))
 

@@ -19,13 +19,13 @@ unfoldable pub tooLong : List ℤ → ℕ
 tooLong s = check 11 (ltb 3072 (length s))
 
 -- 8: a buffer shorter than its needed length: 3,096 values, 774 words, 774 bits, and 96 bytes for each whole block
-unfoldable pub noRoom : ℕ → Lent → List ℕ
-noRoom blocks l =
+unfoldable pub tooFew : ℕ → Lent → List ℕ
+tooFew blocks l =
     check 8 (ltb (length (l .depunctured)) 3096) ∷ check 8 (ltb (length (l .words)) 774) ∷ check 8 (ltb (length (l .bits)) 774) ∷ check 8 (ltb (length (l .fibs)) (96 * blocks)) ∷ []
 
 -- the first refusal of a call, 11 before 8; 0 for none
 unfoldable pub processRefusal : List ℤ → List ℤ → List ℤ → Lent → ℕ
-processRefusal s1 s2 s3 l = firstOf (tooLong s1 ∷ tooLong s2 ∷ tooLong s3 ∷ noRoom (blocksIn (joined s1 s2 s3)) l)
+processRefusal s1 s2 s3 l = firstOf (tooLong s1 ∷ tooLong s2 ∷ tooLong s3 ∷ tooFew (blocksIn (joined s1 s2 s3)) l)
 
 -- how many FIBs, or the number
 abbrev pub answerOf : FicAnswer → Outcome ℕ

@@ -12,7 +12,7 @@ use lib.IntN.{ℤ}
 use lib.Ieee.{Float}
 use Rattle.laws.proofs.Lists.{length-listOf}
 use Rattle.spec_en300401.specs.Puncturing.{mask, depuncture}
-use Rattle.fec_protection.specs.Refusals.{profileOf, roomOf}
+use Rattle.fec_protection.specs.Refusals.{profileOf, depuncturedLength}
 use Rattle.refusal.specs.Outcome.{gives, refuses, outcome, numberOf}
 use Rattle.refusal.proofs.Laws.{refused-by}
 use Rattle.fec_viterbi.specs.Decoders.{endsOf}
@@ -22,7 +22,7 @@ use Rattle.msc_state.specs.declared.Channel.{Channel}
 use Rattle.msc_handler.specs.declared.Fed.{Fed}
 use Rattle.msc_state.specs.declared.State.{State}
 use Rattle.msc_handler.specs.Frames.{Framed}
-use Rattle.msc_handler.specs.Promises.{Said, waiting, framed, saidOf, Buffers, buffers, refusalIn, stepOf, gathers, completes, Turn, turnOf, stretchOf, delayed, gathered, rotated, depuncturedOf, Completed, CifPromise, Feeds, FeedPromise}
+use Rattle.msc_handler.specs.Promises.{Said, waiting, framed, saidOf, Buffers, buffers, refusalIn, stepOf, gathers, completes, Turn, turnOf, sliceOf, delayed, gathered, rotated, depuncturedOf, Completed, CifPromise, Feeds, FeedPromise}
 use Rattle.msc_handler.specs.Ring.{stored, readOut, refilled}
 use Rattle.msc_state.specs.States.{valuesOf, whole, due, stateAfter}
 use Rattle.msc_handler.proofs.Frames.{framed-unique}
@@ -36,7 +36,7 @@ module _ (c : Channel) (b : Buffers) where
   abbrev n : ℕ
   n = valuesOf (c .description)
 
-  module _ {ring' read' : List ℤ} (filled : ring' ≡ refilled (b .ring) n (c .«ring_index») (stretchOf (c .description) (b .cif))) (read : read' ≡ delayed c (b .ring) ++ drop n (b .deinterleaved)) where
+  module _ {ring' read' : List ℤ} (filled : ring' ≡ refilled (b .ring) n (c .«ring_index») (sliceOf (c .description) (b .cif))) (read : read' ≡ delayed c (b .ring) ++ drop n (b .deinterleaved)) where
     pub cif-waits : c .«cif_count» < 16 → CifPromise c b (gives waiting) (buffers (b .cif) ring' read' (b .depunctured) (b .words) (b .bits) (b .frame))
     unfolding Completed
     cif-waits h =
@@ -50,13 +50,13 @@ module _ (c : Channel) (b : Buffers) where
     abbrev values : List ℤ
     values = depuncture (mask (profileOf (c .description))) (take n read')
 
-    pub cif-frames : {dep' : List ℤ} {words' bits' frame' : List ℕ} {p : Float} → 16 ≤ c .«cif_count» → dep' ≡ values ++ drop (roomOf (c .description)) (b .depunctured)
+    pub cif-frames : {dep' : List ℤ} {words' bits' frame' : List ℕ} {p : Float} → 16 ≤ c .«cif_count» → dep' ≡ values ++ drop (depuncturedLength (c .description)) (b .depunctured)
         → Framed (endsOf (c .description .«is_eep»)) (c .description .bitrate) values (b .words) (b .bits) (b .frame) p words' bits' frame'
         → CifPromise c b (gives (framed (3 * c .description .bitrate) p)) (buffers (b .cif) ring' read' dep' words' bits' frame')
     unfolding Completed
     cif-frames {dep'} {words'} {bits'} {frame'} {p} h d f =
         let same : values ≡ depuncturedOf c (b .ring) = ap (depuncture (mask (profileOf (c .description)))) values-are in
-        let dep-is : dep' ≡ depuncturedOf c (b .ring) ++ drop (roomOf (c .description)) (b .depunctured) = d ∙ ap (λ (v : List ℤ). v ++ drop (roomOf (c .description)) (b .depunctured)) same in
+        let dep-is : dep' ≡ depuncturedOf c (b .ring) ++ drop (depuncturedLength (c .description)) (b .depunctured) = d ∙ ap (λ (v : List ℤ). v ++ drop (depuncturedLength (c .description)) (b .depunctured)) same in
         subst (λ (e : Bool). Completed e c b (gives (framed (3 * c .description .bitrate) p)) (buffers (b .cif) ring' read' dep' words' bits' frame')) (sym (le-leb 16 (c .«cif_count») h))
         (record {
           percent = p;
@@ -187,7 +187,7 @@ unfolding Completed
 completed-unique false c b x y = record { said-one = x .0 ∙ sym (y .0); left-one = x .1 ∙ sym (y .1) }
 completed-unique true c b x y =
     let u = framed-unique (x .framing) (y .framing) in
-    let rest : List ℤ = depuncturedOf c (b .ring) ++ drop (roomOf (c .description)) (b .depunctured) in
+    let rest : List ℤ = depuncturedOf c (b .ring) ++ drop (depuncturedLength (c .description)) (b .depunctured) in
     record {
       said-one = x .answer ∙ ap (λ (p : Float). gives (framed (3 * c .description .bitrate) p)) (u .percent-one) ∙ sym (y .answer);
       left-one = x .lent ∙ (λ i. buffers (rotated c b .cif) (rotated c b .ring) (rotated c b .deinterleaved) rest (u .words-one i) (u .bits-one i) (u .frame-one i)) ∙ sym (y .lent);

@@ -23,7 +23,7 @@ use Rattle.fec_quality.proofs.Answers.{is-measured}
 use Rattle.fec_viterbi.specs.Decoders.{steps, decodedAs, Decoded, metricOf}
 use Rattle.fec_viterbi.specs.declared.Decoding.{Decoding}
 use Rattle.fec_viterbi.proofs.Result.{Left, Finished, finished, bits-one, metric-one, words-one, decoded-length, decoded-bits}
-use Rattle.msc_handler.specs.Frames.{frameBits, Framed, FrameRoom, percentIn}
+use Rattle.msc_handler.specs.Frames.{frameBits, Framed, FrameLongEnough, percentIn}
 use Rattle.msc_state.specs.States.{stepsOf}
 
 -- what is packed, where it fits
@@ -34,12 +34,12 @@ pack-fits xs out k e h = packed-is xs out (omega arith) ∙ ap (λ (m : ℕ). by
 measure-fits : (q : Measured) (m : ℤ) (xs : List ℤ) → length xs / 4 ≤ 65536 → measuredAs q ≡ measured m xs → percentIn q ≡ percentOf m (sumAbs xs)
 measure-fits q m xs h e = ap percentIn (is-measured q m xs h e)
 
-module _ {rate : ℕ} {soft : List ℤ} {words bits frame : List ℕ} (room : FrameRoom rate soft words bits frame) where
+module _ {rate : ℕ} {soft : List ℤ} {words bits frame : List ℕ} (fits-in : FrameLongEnough rate soft words bits frame) where
   steps-are : steps soft ≡ stepsOf rate
-  steps-are = omega (arith, room .soft-long)
+  steps-are = omega (arith, fits-in .soft-long)
 
   ended : {ends : Ends} (r : Decoding) {words' bits' : List ℕ} → Decoded ends soft words bits (decodedAs r) words' bits' → Finished ends soft words bits r words' bits'
-  ended r d = finished r (omega (arith, room .few, steps-are)) (omega (arith, room .words-long, steps-are)) (omega (arith, room .bits-long, steps-are)) d
+  ended r d = finished r (omega (arith, fits-in .few, steps-are)) (omega (arith, fits-in .words-long, steps-are)) (omega (arith, fits-in .bits-long, steps-are)) d
 
   -- the bits from the front of the buffer: those of the frame, and the rest
   module _ (decoded bits₁ : List ℕ) {front : List ℕ} (long : length decoded ≡ stepsOf rate) (is : bits₁ ≡ decoded ++ drop (stepsOf rate) bits) (e : front ≡ disperse (take (24 * rate) bits₁)) where
@@ -55,7 +55,7 @@ module _ {rate : ℕ} {soft : List ℤ} {words bits frame : List ℕ} (room : Fr
     frame-after : AreBits decoded → packed (take (24 * rate) (front ++ drop (24 * rate) bits₁)) frame ≡ bytesOfBits (frameBits rate decoded) ++ drop (3 * rate) frame
     frame-after h =
         ap (λ (xs : List ℕ). packed xs frame) (take-at front (drop (24 * rate) bits₁) (24 * rate) front-long)
-        ∙ pack-fits front frame (3 * rate) (omega (arith, front-long)) (room .frame-long)
+        ∙ pack-fits front frame (3 * rate) (omega (arith, front-long)) (fits-in .frame-long)
         ∙ ap (λ (xs : List ℕ). bytesOf xs ++ drop (3 * rate) frame) front-is
         ∙ ap (λ (bytes : List ℕ). bytes ++ drop (3 * rate) frame) (bytes-of-bits (frameBits rate decoded) (disperse-bits (below-take (24 * rate) h)))
 
@@ -73,7 +73,7 @@ module _ {rate : ℕ} {soft : List ℤ} {words bits frame : List ℕ} (room : Fr
         choices = left .choices;
         decodes = left .decodes;
         chosen = left .chosen;
-        percent-is = p ∙ measure-fits q (done .metric) soft (omega (arith, room .few, steps-are)) (m ∙ ap (λ (s : Decoding). measured (metricOf s) soft) (done .done-is));
+        percent-is = p ∙ measure-fits q (done .metric) soft (omega (arith, fits-in .few, steps-are)) (m ∙ ap (λ (s : Decoding). measured (metricOf s) soft) (done .done-is));
         words-are = left .words-are;
         bits-are = bits-after (left .decoded) bits₁ long (left .bits-are) f;
         frame-is = pk ∙ frame-after (left .decoded) bits₁ long (left .bits-are) f (decoded-bits (left .decodes));

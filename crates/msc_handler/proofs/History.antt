@@ -21,7 +21,7 @@ use Rattle.spec_en300401.proofs.Interleaving.{delay-lt}
 use Rattle.fec_protection.specs.declared.Description.{Description}
 use Rattle.msc_set_up.specs.Promises.{cleared}
 use Rattle.msc_state.specs.declared.Channel.{Channel}
-use Rattle.msc_state.specs.States.{valuesOf, ringRoom, startedAt, freshState, mostFrames, channelAfter}
+use Rattle.msc_state.specs.States.{valuesOf, ringLength, startedAt, freshState, mostFrames, channelAfter}
 use Rattle.msc_handler.specs.History.{symbolOf, Cif, valueAt, sliceValue, BoardHolds, heldValue, ChannelHolds}
 use Rattle.msc_handler.specs.Promises.{delayed}
 use Rattle.msc_handler.specs.Ring.{stored, inSlot, slotOf, readOut, refilled}
@@ -86,15 +86,15 @@ module _ {wholes : ℕ} {begun : Cif} {symbols inFrame : ℕ} {cif : List ℤ} (
 -- ---- a channel
 
 -- before any CIF, with a ring of zeros
-module _ (d : Description) (ring : List ℤ) (needed : ringRoom d ≤ length ring) where
+module _ (d : Description) (ring : List ℤ) (needed : ringLength d ≤ length ring) where
   fresh-slots : (j i : ℕ) → j < 16 → i < valuesOf d → inSlot (cleared d ring) (valuesOf d) ((0 + j) % 16) i ≡ heldValue d [] j i
   unfolding cleared heldValue
   fresh-slots j i k l =
       let s : (0 + j) % 16 ≡ j = omega arith in
-      let e : j * valuesOf d + i < ringRoom d = omega (arith, slot-end j 16 (valuesOf d) i k l) in
-      ap (λ (t : ℕ). at (replicate (ringRoom d) (pos 0) ++ drop (ringRoom d) ring) (t * valuesOf d + i)) s
-      ∙ List·getD-append (replicate (ringRoom d) (pos 0)) (drop (ringRoom d) ring) (pos 0) (j * valuesOf d + i) (omega (arith, length-replicate (ringRoom d) (pos 0)))
-      ∙ getD-replicate (ringRoom d) (j * valuesOf d + i) (pos 0) (pos 0) e
+      let e : j * valuesOf d + i < ringLength d = omega (arith, slot-end j 16 (valuesOf d) i k l) in
+      ap (λ (t : ℕ). at (replicate (ringLength d) (pos 0) ++ drop (ringLength d) ring) (t * valuesOf d + i)) s
+      ∙ List·getD-append (replicate (ringLength d) (pos 0)) (drop (ringLength d) ring) (pos 0) (j * valuesOf d + i) (omega (arith, length-replicate (ringLength d) (pos 0)))
+      ∙ getD-replicate (ringLength d) (j * valuesOf d + i) (pos 0) (pos 0) e
       ∙ sym (ap (λ (b : Bool). cond b (pos 0) (sliceValue d (getD [] (0 + j - 16) []) i)) (lt-ltb (0 + j) 16 (omega arith)))
 
   pub channel-fresh : ChannelHolds d [] (freshState d .channel) (cleared d ring)
@@ -130,7 +130,7 @@ frames-next w count frames e f = go (decLt count 16)
 
 module _ {d : Description} {cifs : List Cif} {c : Channel} {ring : List ℤ} (v : ChannelHolds d cifs c ring) where
   -- no value of the ring beyond its needed length counts
-  pub channel-lent : {ring₂ : List ℤ} → ((p : ℕ) → p < ringRoom d → at ring₂ p ≡ at ring p) → ChannelHolds d cifs c ring₂
+  pub channel-lent : {ring₂ : List ℤ} → ((p : ℕ) → p < ringLength d → at ring₂ p ≡ at ring p) → ChannelHolds d cifs c ring₂
   channel-lent {ring₂} e =
       record {
         description = v .description;
@@ -144,7 +144,7 @@ module _ {d : Description} {cifs : List Cif} {c : Channel} {ring : List ℤ} (v 
       }
 
   -- one whole CIF more, whose slice is `own`
-  module _ (cif : Cif) (own : List ℤ) (needed : ringRoom d ≤ length ring) (long : valuesOf d ≤ length own) (is : (i : ℕ) → i < valuesOf d → at own i ≡ sliceValue d cif i) where
+  module _ (cif : Cif) (own : List ℤ) (needed : ringLength d ≤ length ring) (long : valuesOf d ≤ length own) (is : (i : ℕ) → i < valuesOf d → at own i ≡ sliceValue d cif i) where
     abbrev next : List Cif
     next = cifs ++ (cif ∷ [])
 

@@ -32,7 +32,7 @@ pub record Framed (ends : Ends) (rate : ℕ) (soft : List ℤ) (words bits frame
   pub frame-is : frame' ≡ bytesOfBits (frameBits rate decoded) ++ drop (3 * rate) frame
 
 -- buffers long enough for a frame, and no more steps than a decoder takes
-pub record FrameRoom (rate : ℕ) (soft : List ℤ) (words bits frame : List ℕ) : Type 0 where
+pub record FrameLongEnough (rate : ℕ) (soft : List ℤ) (words bits frame : List ℕ) : Type 0 where
   pub soft-long : length soft ≡ 96 * rate + 24
   pub few : stepsOf rate ≤ 65536
   pub words-long : stepsOf rate ≤ length words

@@ -1,5 +1,5 @@
+pub mod Code
 pub mod Frames
 pub mod History
 pub mod Promises
 pub mod Ring
-pub mod Rooms

@@ -8,7 +8,7 @@ use lib.IntN.{ℤ}
 use lib.Ieee.{Float}
 use Rattle.spec_en300401.specs.Puncturing.{mask, depuncture}
 use Rattle.fec_protection.specs.declared.Description.{Description}
-use Rattle.fec_protection.specs.Refusals.{profileOf, roomOf}
+use Rattle.fec_protection.specs.Refusals.{profileOf, depuncturedLength}
 use Rattle.refusal.specs.Outcome.{Outcome, gives, refuses, outcome}
 use Rattle.fec_viterbi.specs.Decoders.{endsOf}
 use Rattle.msc_handler.specs.declared.Answer.{Answer}
@@ -80,9 +80,9 @@ Turn = Outcome Step
 unfoldable pub turnOf : State → List ℤ → Buffers → Turn
 turnOf s soft b = outcome (refusalIn s soft b) (stepOf (whole s))
 
--- the sub-channel's own stretch of a CIF
-abbrev pub stretchOf : Description → List ℤ → List ℤ
-stretchOf d cif = part cif (64 * d .«start_addr») (valuesOf d)
+-- the sub-channel's own slice of a CIF
+abbrev pub sliceOf : Description → List ℤ → List ℤ
+sliceOf d cif = part cif (64 * d .«start_addr») (valuesOf d)
 
 -- what a whole CIF reads of the ring
 abbrev pub delayed : Channel → List ℤ → List ℤ
@@ -92,10 +92,10 @@ delayed c ring = readOut ring (valuesOf (c .description)) (c .«ring_index»)
 abbrev pub gathered : State → List ℤ → Buffers → Buffers
 gathered s soft b = buffers (stored (b .cif) (s .symbols) soft) (b .ring) (b .deinterleaved) (b .depunctured) (b .words) (b .bits) (b .frame)
 
--- a whole CIF: its stretch into the ring, and what was read before it into the front of `deinterleaved`
+-- a whole CIF: its slice into the ring, and what was read before it into the front of `deinterleaved`
 abbrev pub rotated : Channel → Buffers → Buffers
 rotated c b =
-    buffers (b .cif) (refilled (b .ring) (valuesOf (c .description)) (c .«ring_index») (stretchOf (c .description) (b .cif)))
+    buffers (b .cif) (refilled (b .ring) (valuesOf (c .description)) (c .«ring_index») (sliceOf (c .description) (b .cif)))
     (delayed c (b .ring) ++ drop (valuesOf (c .description)) (b .deinterleaved)) (b .depunctured) (b .words) (b .bits) (b .frame)
 
 -- the depunctured values of what was read
@@ -110,7 +110,7 @@ pub record FramePromise (c : Channel) (b : Buffers) (said : Said) (b' : Buffers)
   pub frame' : List ℕ
   pub framing : Framed (endsOf (c .description .«is_eep»)) (c .description .bitrate) (depuncturedOf c (b .ring)) (b .words) (b .bits) (b .frame) percent words' bits' frame'
   pub answer : said ≡ gives (framed (3 * c .description .bitrate) percent)
-  pub lent : b' ≡ buffers (rotated c b .cif) (rotated c b .ring) (rotated c b .deinterleaved) (depuncturedOf c (b .ring) ++ drop (roomOf (c .description)) (b .depunctured)) words' bits' frame'
+  pub lent : b' ≡ buffers (rotated c b .cif) (rotated c b .ring) (rotated c b .deinterleaved) (depuncturedOf c (b .ring) ++ drop (depuncturedLength (c .description)) (b .depunctured)) words' bits' frame'
 
 -- a whole CIF in b: of the first sixteen, only the ring and `deinterleaved` change
 unfoldable pub Completed : Bool → Channel → Buffers → Said → Buffers → Type 0

@@ -1,4 +1,4 @@
--- Document 01, "msc/mod.rs": the CIF store, the sub-channel's stretch of it, and the ring of sixteen slots, as lists.
+-- Document 01, "msc/mod.rs": the CIF store, the sub-channel's slice of it, and the ring of sixteen slots, as lists.
 use mathlib.Core.List.{List}
 use Prim.Native.Nat.{ℕ, _+_, _*_, _%_}
 use lib.ListN.{take, drop}

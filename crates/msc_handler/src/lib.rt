@@ -1,4 +1,4 @@
-// MSC: symbols to CIFs, a sub-channel's stretch through the ring, frames (msc/mod.rs).
+// MSC: symbols to CIFs, a sub-channel's slice through the ring, frames (msc/mod.rs).
 use fec_protection::Description;
 use fec_quality::Measured;
 use fec_viterbi::Decoding;
@@ -13,12 +13,12 @@ ghost use lib.Seq.{paste};
 ghost use Rattle.laws.specs.Integers.{at};
 ghost use Rattle.spec_en300401.specs.Interleaving.{delays};
 ghost use Rattle.spec_en300401.specs.Puncturing.{mask, depuncture};
-ghost use Rattle.fec_protection.specs.Refusals.{profileOf, roomOf};
+ghost use Rattle.fec_protection.specs.Refusals.{profileOf, depuncturedLength};
 ghost use Rattle.fec_viterbi.specs.Decoders.{endsOf, decodedAs, Decoded, metricOf};
-ghost use Rattle.msc_handler.specs.Frames.{Framed, FrameRoom, percentIn};
-ghost use Rattle.msc_handler.specs.Promises.{saidOf, stretchOf, delayed, buffers, CifPromise, FeedPromise};
+ghost use Rattle.msc_handler.specs.Frames.{Framed, FrameLongEnough, percentIn};
+ghost use Rattle.msc_handler.specs.Promises.{saidOf, sliceOf, delayed, buffers, CifPromise, FeedPromise};
 ghost use Rattle.msc_handler.specs.Ring.{slotOf, readOut, refilled, part};
-ghost use Rattle.msc_handler.specs.Rooms.{RingLent, FrameLent, CifLent};
+ghost use Rattle.msc_handler.specs.Code.{RingLent, FrameLent, CifLent};
 ghost use Rattle.msc_state.specs.States.{valuesOf};
 
 pub enum Answer {
@@ -44,8 +44,8 @@ fn store(soft: &[i8], cif: &mut [i8], from: usize)
     }
 }
 
-// The sub-channel's own stretch of the CIF, as a part of the store.
-fn stretch(cif: &[i8], from: usize, to: usize) -> &[i8]
+// The sub-channel's own slice of the CIF, as a part of the store.
+fn own_slice(cif: &[i8], from: usize, to: usize) -> &[i8]
     requires { ⌜ (from ≤ to) × (to ≤ length (now cif)) ⌝ }
     ensures { λ r. ⌜ now r ≡ part (now (cif .entry)) from (to - from) ⌝ }
 {
@@ -122,7 +122,7 @@ fn frame_of(
     bits: &mut [u8],
     frame: &mut [u8],
 ) -> f64
-    requires { ⌜ FrameRoom rate (now soft) (now words) (now bits) (now frame) ⌝ }
+    requires { ⌜ FrameLongEnough rate (now soft) (now words) (now bits) (now frame) ⌝ }
     ensures { λ r. ⌜ Framed (endsOf free) rate (now (soft .entry)) (now (words .entry)) (now (bits .entry)) (now (frame .entry)) r (now (words .exit)) (now (bits .exit)) (now (frame .exit)) ⌝ }
 {
     let decoding = decode(free, soft, &mut *words, &mut *bits);
@@ -133,17 +133,17 @@ fn frame_of(
     percent_in(measured)
 }
 
-// A whole CIF: what the ring holds of it is read, and the sub-channel's stretch takes its place.
+// A whole CIF: what the ring holds of it is read, and the sub-channel's slice takes its place.
 fn rotate(channel: Channel, cif: &[i8], ring: &mut [i8], deinterleaved: &mut [i8])
     requires { ⌜ RingLent channel (now cif) (now ring) (now deinterleaved) ⌝ }
-    ensures { λ r. ⌜ (now (ring .exit) ≡ refilled (now (ring .entry)) (valuesOf (channel .description)) (channel .«ring_index») (stretchOf (channel .description) (now (cif .entry)))) × (now (deinterleaved .exit) ≡ delayed channel (now (ring .entry)) ++ drop (valuesOf (channel .description)) (now (deinterleaved .entry))) ⌝ }
+    ensures { λ r. ⌜ (now (ring .exit) ≡ refilled (now (ring .entry)) (valuesOf (channel .description)) (channel .«ring_index») (sliceOf (channel .description) (now (cif .entry)))) × (now (deinterleaved .exit) ≡ delayed channel (now (ring .entry)) ++ drop (valuesOf (channel .description)) (now (deinterleaved .entry))) ⌝ }
 {
     let d = channel.description;
     let x = channel.ring_index as usize;
     let n = 64 * (d.sub_size as usize);
     let from = 64 * (d.start_addr as usize);
     let to = from + n;
-    let own = stretch(cif, from, to);
+    let own = own_slice(cif, from, to);
     deinterleave(own, &mut *ring, x, &mut deinterleaved[..n]);
 }
 
@@ -157,7 +157,7 @@ fn decode_frame(
     frame: &mut [u8],
 ) -> f64
     requires { ⌜ FrameLent d (now deinterleaved) (now depunctured) (now words) (now bits) (now frame) ⌝ }
-    ensures { λ r. ⌜ (now (depunctured .exit) ≡ depuncture (mask (profileOf d)) (take (valuesOf d) (now (deinterleaved .entry))) ++ drop (roomOf d) (now (depunctured .entry))) × Framed (endsOf (d .«is_eep»)) (d .bitrate) (depuncture (mask (profileOf d)) (take (valuesOf d) (now (deinterleaved .entry)))) (now (words .entry)) (now (bits .entry)) (now (frame .entry)) r (now (words .exit)) (now (bits .exit)) (now (frame .exit)) ⌝ }
+    ensures { λ r. ⌜ (now (depunctured .exit) ≡ depuncture (mask (profileOf d)) (take (valuesOf d) (now (deinterleaved .entry))) ++ drop (depuncturedLength d) (now (depunctured .entry))) × Framed (endsOf (d .«is_eep»)) (d .bitrate) (depuncture (mask (profileOf d)) (take (valuesOf d) (now (deinterleaved .entry)))) (now (words .entry)) (now (bits .entry)) (now (frame .entry)) r (now (words .exit)) (now (bits .exit)) (now (frame .exit)) ⌝ }
 {
     let n = 64 * (d.sub_size as usize);
     let rate = d.bitrate as usize;

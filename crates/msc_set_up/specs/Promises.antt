@@ -8,12 +8,12 @@ use Rattle.fec_protection.specs.declared.Description.{Description}
 use Rattle.fec_protection.specs.Answers.{judgedAs}
 use Rattle.refusal.specs.Outcome.{outcome, unlessRefused}
 use Rattle.msc_state.specs.declared.State.{State}
-use Rattle.msc_state.specs.States.{ringRoom, setUpRefusal, resetRefusal, freshState, noDescription}
+use Rattle.msc_state.specs.States.{ringLength, setUpRefusal, resetRefusal, freshState, noDescription}
 use Rattle.msc_set_up.specs.declared.SetUp.{SetUp}
 
 -- the ring's need filled with zeros, and the rest as it was
 unfoldable pub cleared : Description → List ℤ → List ℤ
-cleared d ring = replicate (ringRoom d) (pos 0) ++ drop (ringRoom d) ring
+cleared d ring = replicate (ringLength d) (pos 0) ++ drop (ringLength d) ring
 
 -- refused by n, with one state and the ring as it was, or a fresh state and a ring of zeros
 pub record Prepared (n : ℕ) (d : Description) (other : State) (ring : List ℤ) (r : SetUp) (ring' : List ℤ) : Type 0 where

@@ -8,7 +8,7 @@ ghost use mathlib.Core.Path.{_≡_};
 ghost use Prim.Native.Nat.{_≤_};
 ghost use lib.ListN.{length, replicate};
 ghost use lib.IntN.{pos};
-ghost use Rattle.msc_state.specs.States.{ringRoom, startedAt, noDescription};
+ghost use Rattle.msc_state.specs.States.{ringLength, startedAt, noDescription};
 ghost use Rattle.msc_set_up.specs.Promises.{cleared, SetUpPromise, ResetPromise};
 
 pub struct SetUp {
@@ -28,7 +28,7 @@ fn clear(places: &mut [i8])
 
 // Zeros for the ring's need.
 fn clear_ring(d: Description, ring: &mut [i8])
-    requires { ⌜ ringRoom d ≤ length (now ring) ⌝ }
+    requires { ⌜ ringLength d ≤ length (now ring) ⌝ }
     ensures { λ r. ⌜ now (ring .exit) ≡ cleared d (now (ring .entry)) ⌝ }
 {
     let n = 1024 * (d.sub_size as usize);

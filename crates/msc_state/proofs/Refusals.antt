@@ -6,11 +6,11 @@ use Prim.Native.Nat.{ℕ, _≤_}
 use borrow.Author.Tests.{ltb-false, eqb-true, not-false}
 use lib.Dec.{eqb, ltb}
 use Rattle.fec_protection.specs.declared.Description.{Description}
-use Rattle.fec_protection.specs.Refusals.{refusalOf, roomOf}
+use Rattle.fec_protection.specs.Refusals.{refusalOf, depuncturedLength}
 use Rattle.refusal.proofs.Checks.{none-of, off-at, clean, zeroed, later, held-not}
 use Rattle.msc_state.specs.declared.Lengths.{Lengths}
 use Rattle.msc_state.specs.declared.State.{State}
-use Rattle.msc_state.specs.States.{faults, badState, valuesOf, ringRoom, frameRoom, stepsOf, shortages, tooShort, LongEnough, setUpChecks, setUpRefusal, resetChecks, resetRefusal, feedChecks, feedRefusal}
+use Rattle.msc_state.specs.States.{faults, badState, valuesOf, ringLength, frameLength, stepsOf, shortages, tooShort, LongEnough, setUpChecks, setUpRefusal, resetChecks, resetRefusal, feedChecks, feedRefusal}
 
 -- a state that is not bad
 pub record Sound (s : State) : Type 0 where
@@ -39,23 +39,23 @@ long-enough d l e =
     let n = none-of (shortages d l) e in
     record {
       cif-long = ltb-false (l .cif) 55296 (off-at n 0);
-      ring-long = ltb-false (l .ring) (ringRoom d) (off-at n 1);
+      ring-long = ltb-false (l .ring) (ringLength d) (off-at n 1);
       read-long = ltb-false (l .deinterleaved) (valuesOf d) (off-at n 2);
-      soft-long = ltb-false (l .depunctured) (roomOf d) (off-at n 3);
+      soft-long = ltb-false (l .depunctured) (depuncturedLength d) (off-at n 3);
       words-long = ltb-false (l .words) (stepsOf (d .bitrate)) (off-at n 4);
       bits-long = ltb-false (l .bits) (stepsOf (d .bitrate)) (off-at n 5);
-      frame-long = ltb-false (l .frame) (frameRoom d) (off-at n 6);
+      frame-long = ltb-false (l .frame) (frameLength d) (off-at n 6);
     }
 
 -- set-up, reset and feeding that are not refused
-pub set-up-room : (d : Description) (ring : ℕ) → setUpRefusal d ring ≡ 0 → ringRoom d ≤ ring
+pub set-up-long : (d : Description) (ring : ℕ) → setUpRefusal d ring ≡ 0 → ringLength d ≤ ring
 unfolding setUpRefusal
-set-up-room d ring e = ltb-false ring (ringRoom d) (held-not 7 (ltb ring (ringRoom d)) (zeroed (later (clean (setUpChecks d ring) e))))
+set-up-long d ring e = ltb-false ring (ringLength d) (held-not 7 (ltb ring (ringLength d)) (zeroed (later (clean (setUpChecks d ring) e))))
 
-pub reset-room : (s : State) (ring : ℕ) → resetRefusal s ring ≡ 0 → ringRoom (s .channel .description) ≤ ring
+pub reset-long : (s : State) (ring : ℕ) → resetRefusal s ring ≡ 0 → ringLength (s .channel .description) ≤ ring
 unfolding resetRefusal
-reset-room s ring e =
-    let n = ringRoom (s .channel .description) in
+reset-long s ring e =
+    let n = ringLength (s .channel .description) in
     ltb-false ring n (held-not 7 (ltb ring n) (zeroed (later (clean (resetChecks s ring) e))))
 
 pub record Accepted (s : State) (soft : ℕ) (l : Lengths) : Type 0 where

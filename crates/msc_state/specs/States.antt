@@ -5,7 +5,7 @@ use Prim.Native.Nat.{ℕ, _+_, _*_, _%_, _≤_, min}
 use lib.Dec.{eqb, ltb, leb}
 use Rattle.spec_en300401.specs.Interleaving.{cifBits, symbolBits}
 use Rattle.fec_protection.specs.declared.Description.{Description}
-use Rattle.fec_protection.specs.Refusals.{refusalOf, roomOf}
+use Rattle.fec_protection.specs.Refusals.{refusalOf, depuncturedLength}
 use Rattle.refusal.specs.Outcome.{check, firstOf, anyOf}
 use Rattle.msc_state.specs.declared.Channel.{Channel}
 use Rattle.msc_state.specs.declared.Lengths.{Lengths}
@@ -22,11 +22,11 @@ badState s = anyOf (faults s)
 abbrev pub valuesOf : Description → ℕ
 valuesOf d = 64 * d .«sub_size»
 
-abbrev pub ringRoom : Description → ℕ
-ringRoom d = 1024 * d .«sub_size»
+abbrev pub ringLength : Description → ℕ
+ringLength d = 1024 * d .«sub_size»
 
-abbrev pub frameRoom : Description → ℕ
-frameRoom d = 3 * d .bitrate
+abbrev pub frameLength : Description → ℕ
+frameLength d = 3 * d .bitrate
 
 -- 24 × bitrate bits, and the six of the tail: one step each
 abbrev pub stepsOf : ℕ → ℕ
@@ -35,7 +35,7 @@ stepsOf rate = 24 * rate + 6
 -- a buffer is shorter than the description needs, one flag for each
 abbrev pub shortages : Description → Lengths → List Bool
 shortages d l =
-    ltb (l .cif) cifBits ∷ ltb (l .ring) (ringRoom d) ∷ ltb (l .deinterleaved) (valuesOf d) ∷ ltb (l .depunctured) (roomOf d) ∷ ltb (l .words) (stepsOf (d .bitrate)) ∷ ltb (l .bits) (stepsOf (d .bitrate)) ∷ ltb (l .frame) (frameRoom d) ∷ []
+    ltb (l .cif) cifBits ∷ ltb (l .ring) (ringLength d) ∷ ltb (l .deinterleaved) (valuesOf d) ∷ ltb (l .depunctured) (depuncturedLength d) ∷ ltb (l .words) (stepsOf (d .bitrate)) ∷ ltb (l .bits) (stepsOf (d .bitrate)) ∷ ltb (l .frame) (frameLength d) ∷ []
 
 unfoldable pub tooShort : Description → Lengths → Bool
 tooShort d l = anyOf (shortages d l)
@@ -43,23 +43,23 @@ tooShort d l = anyOf (shortages d l)
 -- each is long enough
 pub record LongEnough (d : Description) (l : Lengths) : Type 0 where
   pub cif-long : cifBits ≤ l .cif
-  pub ring-long : ringRoom d ≤ l .ring
+  pub ring-long : ringLength d ≤ l .ring
   pub read-long : valuesOf d ≤ l .deinterleaved
-  pub soft-long : roomOf d ≤ l .depunctured
+  pub soft-long : depuncturedLength d ≤ l .depunctured
   pub words-long : stepsOf (d .bitrate) ≤ l .words
   pub bits-long : stepsOf (d .bitrate) ≤ l .bits
-  pub frame-long : frameRoom d ≤ l .frame
+  pub frame-long : frameLength d ≤ l .frame
 
 -- set-up: 1 to 7, then 8
 abbrev pub setUpChecks : Description → ℕ → List ℕ
-setUpChecks d ring = refusalOf d ∷ check 8 (ltb ring (ringRoom d)) ∷ []
+setUpChecks d ring = refusalOf d ∷ check 8 (ltb ring (ringLength d)) ∷ []
 
 unfoldable pub setUpRefusal : Description → ℕ → ℕ
 setUpRefusal d ring = firstOf (setUpChecks d ring)
 
 -- reset: 10, 8
 abbrev pub resetChecks : State → ℕ → List ℕ
-resetChecks s ring = check 10 (badState s) ∷ check 8 (ltb ring (ringRoom (s .channel .description))) ∷ []
+resetChecks s ring = check 10 (badState s) ∷ check 8 (ltb ring (ringLength (s .channel .description))) ∷ []
 
 unfoldable pub resetRefusal : State → ℕ → ℕ
 resetRefusal s ring = firstOf (resetChecks s ring)

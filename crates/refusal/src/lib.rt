@@ -1,4 +1,4 @@
-// What every room answers where it turns a caller away: document 01's number.
+// What every crate answers where it turns a caller away: document 01's number.
 pub struct Refusal {
     pub number: u8,
 }

@@ -13,7 +13,7 @@ use lib.IntN.{ℤ}
 use Rattle.refusal.specs.Outcome.{gives}
 use Rattle.fec_protection.specs.declared.Description.{Description}
 use Rattle.msc_state.specs.declared.State.{State}
-use Rattle.msc_state.specs.States.{ringRoom, freshState, setUpRefusal, resetRefusal}
+use Rattle.msc_state.specs.States.{ringLength, freshState, setUpRefusal, resetRefusal}
 use Rattle.msc_handler.specs.Promises.{Buffers}
 use Rattle.c_state.specs.Numbers.{stateIn}
 use Rattle.c_msc.specs.Msc.{SetUpCall, ResetCall, setUpNumber, resetNumber, FedPlaces}
@@ -40,7 +40,7 @@ record Started (d : Description) (number : ℕ) (h : Kept) : Type 0 where
 started : {d : Description} {number : ℕ} {h : Kept} → LibraryStart d number h → Started d number h
 unfolding setUpNumber setUpRefusal resetNumber resetRefusal
 started {d} (by-set-up {number} state cif ring ring' state' ok long needed p) =
-    let none : setUpNumber d (length ring) (length state) ≡ 0 = rw (ok, le-ltb (length ring) (ringRoom d) needed, le-ltb (length state) 11 long) refl in
+    let none : setUpNumber d (length ring) (length state) ≡ 0 = rw (ok, le-ltb (length ring) (ringLength d) needed, le-ltb (length state) 11 long) refl in
     let z : number ≡ 0 = p .answer ∙ none in
     let q : SetUpCall d ring state 0 ring' state' = subst (λ (m : ℕ). SetUpCall d ring state m ring' state') z p in
     record {
@@ -49,8 +49,8 @@ started {d} (by-set-up {number} state cif ring ring' state' ok long needed p) =
       start = subst (λ (s : State). Start d (gives tt) (held s cif ring')) (sym (read-back (freshState d) state (state-by q))) (crate-set-up cif ring (done d) ring' ok needed (prepared (set-up-none d (length ring) (length state) (q .answer)) (ring-by q)));
     }
 started {d} (by-reset {number} state cif ring ring' state' e long ranged bad needed p) =
-    let here : ringRoom (stateIn state .channel .description) ≤ length ring = subst (λ (u : Description). ringRoom u ≤ length ring) (sym e) needed in
-    let none : resetNumber state (length ring) ≡ 0 = rw (le-ltb (length state) 11 long, ranged, bad, le-ltb (length ring) (ringRoom (stateIn state .channel .description)) here) refl in
+    let here : ringLength (stateIn state .channel .description) ≤ length ring = subst (λ (u : Description). ringLength u ≤ length ring) (sym e) needed in
+    let none : resetNumber state (length ring) ≡ 0 = rw (le-ltb (length state) 11 long, ranged, bad, le-ltb (length ring) (ringLength (stateIn state .channel .description)) here) refl in
     let z : number ≡ 0 = p .answer ∙ none in
     let q : ResetCall state ring 0 ring' state' = subst (λ (m : ℕ). ResetCall state ring m ring' state') z p in
     record {

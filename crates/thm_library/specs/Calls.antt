@@ -6,7 +6,7 @@ use lib.ListN.{take}
 use lib.IntN.{ℤ}
 use Rattle.spec_en300401.specs.Interleaving.{cifBits}
 use Rattle.fec_protection.specs.declared.Description.{Description}
-use Rattle.msc_state.specs.States.{ringRoom}
+use Rattle.msc_state.specs.States.{ringLength}
 use Rattle.msc_handler.specs.Promises.{Buffers, turnOf}
 use Rattle.c_state.specs.Numbers.{stateIn}
 use Rattle.c_msc.specs.Msc.{SetUpCall, ResetCall, FedPlaces, FeedCall}
@@ -29,7 +29,7 @@ keptAfter b' f' = kept (f' .state) (b' .cif) (b' .ring)
 pub record KeptCall (d : Description) (h : Kept) (soft : List ℤ) (b : Buffers) (f : FedPlaces) (number : ℕ) (b' : Buffers) (f' : FedPlaces) : Type 0 where
   pub state-kept : take 11 (f .state) ≡ take 11 (h .state)
   pub cif-kept : take cifBits (b .cif) ≡ take cifBits (h .cif)
-  pub ring-kept : take (ringRoom d) (b .ring) ≡ take (ringRoom d) (h .ring)
+  pub ring-kept : take (ringLength d) (b .ring) ≡ take (ringLength d) (h .ring)
   pub promise : FeedCall soft b f number b' f'
 
 -- the state's numbers after a refused call: it was handed a front part of those kept, which stand behind it as it left them; or any others, which are none of the caller's state
@@ -39,11 +39,11 @@ pub data Numbers (kept given given' : List ℕ) : List ℕ → Type 0 where
 
 -- a refused call of one of the three: of any description, any numbers, and any front part of the stores
 pub data RefusedCall (d : Description) (h : Kept) : Kept → Type 0 where
-  set-up-refused : {numbers : List ℕ} (n : ℕ) (e : Description) (ring : List ℤ) (state : List ℕ) (ring' : List ℤ) (state' : List ℕ) → FrontOf (ringRoom d) ring (h .ring) → Numbers (h .state) state state' numbers → SetUpCall e ring state (suc n) ring' state'
+  set-up-refused : {numbers : List ℕ} (n : ℕ) (e : Description) (ring : List ℤ) (state : List ℕ) (ring' : List ℤ) (state' : List ℕ) → FrontOf (ringLength d) ring (h .ring) → Numbers (h .state) state state' numbers → SetUpCall e ring state (suc n) ring' state'
       → RefusedCall d h (kept numbers (h .cif) (leftIn ring' (h .ring)))
-  reset-refused : {numbers : List ℕ} (n : ℕ) (ring : List ℤ) (state : List ℕ) (ring' : List ℤ) (state' : List ℕ) → FrontOf (ringRoom d) ring (h .ring) → Numbers (h .state) state state' numbers → ResetCall state ring (suc n) ring' state'
+  reset-refused : {numbers : List ℕ} (n : ℕ) (ring : List ℤ) (state : List ℕ) (ring' : List ℤ) (state' : List ℕ) → FrontOf (ringLength d) ring (h .ring) → Numbers (h .state) state state' numbers → ResetCall state ring (suc n) ring' state'
       → RefusedCall d h (kept numbers (h .cif) (leftIn ring' (h .ring)))
-  feed-refused : {numbers : List ℕ} (n : ℕ) (soft : List ℤ) (b : Buffers) (f : FedPlaces) (b' : Buffers) (f' : FedPlaces) → FrontOf cifBits (b .cif) (h .cif) → FrontOf (ringRoom d) (b .ring) (h .ring) → Numbers (h .state) (f .state) (f' .state) numbers → FeedCall soft b f (suc n) b' f'
+  feed-refused : {numbers : List ℕ} (n : ℕ) (soft : List ℤ) (b : Buffers) (f : FedPlaces) (b' : Buffers) (f' : FedPlaces) → FrontOf cifBits (b .cif) (h .cif) → FrontOf (ringLength d) (b .ring) (h .ring) → Numbers (h .state) (f .state) (f' .state) numbers → FeedCall soft b f (suc n) b' f'
       → RefusedCall d h (kept numbers (leftIn (b' .cif) (h .cif)) (leftIn (b' .ring) (h .ring)))
 
 -- the calls since a description was set up, or numbers of a state that has it were reset, each answered with 0 or refused: any number, in any order

@@ -9,7 +9,7 @@ use Rattle.spec_en300401.specs.Interleaving.{symbolBits, cifSymbols}
 use Rattle.fec_protection.specs.declared.Description.{Description}
 use Rattle.fec_protection.specs.Refusals.{Accepted}
 use Rattle.spec_sender.specs.Msc.{Sender}
-use Rattle.msc_state.specs.States.{badState, ringRoom}
+use Rattle.msc_state.specs.States.{badState, ringLength}
 use Rattle.msc_handler.specs.Promises.{Buffers}
 use Rattle.c_state.specs.Numbers.{stateIn, outOfRange}
 use Rattle.c_msc.specs.Msc.{SetUpCall, ResetCall, FedPlaces, fedPlaces}
@@ -19,8 +19,8 @@ use Rattle.thm_library.specs.Calls.{Kept, kept, keptAfter, KeptCall}
 
 -- a description that is accepted is set up, or eleven numbers of a state that has it and is not bad are reset, with a ring of its needed length: what the call answers and what is then kept
 pub data LibraryStart (d : Description) : ℕ → Kept → Type 0 where
-  by-set-up : {number : ℕ} (state : List ℕ) (cif ring ring' : List ℤ) (state' : List ℕ) → Accepted d → 11 ≤ length state → ringRoom d ≤ length ring → SetUpCall d ring state number ring' state' → LibraryStart d number (kept state' cif ring')
-  by-reset : {number : ℕ} (state : List ℕ) (cif ring ring' : List ℤ) (state' : List ℕ) → stateIn state .channel .description ≡ d → 11 ≤ length state → outOfRange state ≡ false → badState (stateIn state) ≡ false → ringRoom d ≤ length ring
+  by-set-up : {number : ℕ} (state : List ℕ) (cif ring ring' : List ℤ) (state' : List ℕ) → Accepted d → 11 ≤ length state → ringLength d ≤ length ring → SetUpCall d ring state number ring' state' → LibraryStart d number (kept state' cif ring')
+  by-reset : {number : ℕ} (state : List ℕ) (cif ring ring' : List ℤ) (state' : List ℕ) → stateIn state .channel .description ≡ d → 11 ≤ length state → outOfRange state ≡ false → badState (stateIn state) ≡ false → ringLength d ≤ length ring
       → ResetCall state ring number ring' state' → LibraryStart d number (kept state' cif ring')
 
 -- a call of feeding with its needed lengths, a symbol of 3,072 values, and a place each for the length and the percentage

@@ -10,12 +10,12 @@ use lib.ListN.{length}
 use lib.IntN.{ℤ}
 use Rattle.spec_en300401.specs.Interleaving.{cifBits, symbolBits}
 use Rattle.fec_protection.specs.declared.Description.{Description}
-use Rattle.fec_protection.specs.Refusals.{refusalOf, roomOf}
+use Rattle.fec_protection.specs.Refusals.{refusalOf, depuncturedLength}
 use Rattle.refusal.specs.Outcome.{gives, outcome}
 use Rattle.msc_state.specs.declared.Lengths.{Lengths}
 use Rattle.msc_state.specs.declared.State.{State}
 use Rattle.msc_handler.specs.Promises.{Buffers, lengthsOf, stepOf, gathers, completes, turnOf}
-use Rattle.msc_state.specs.States.{badState, valuesOf, ringRoom, frameRoom, tooShort, LongEnough, feedRefusal, stepsOf}
+use Rattle.msc_state.specs.States.{badState, valuesOf, ringLength, frameLength, tooShort, LongEnough, feedRefusal, stepsOf}
 use Rattle.msc_state.proofs.Refusals.{Sound}
 use Rattle.thm_msc.specs.Answers.{Enough}
 use Rattle.thm_msc.specs.Calls.{Held, Came, History}
@@ -30,7 +30,7 @@ not-bad s h =
 enough : (d : Description) (l : Lengths) → LongEnough d l → tooShort d l ≡ false
 unfolding tooShort
 enough d l h =
-    rw (le-ltb (l .cif) cifBits (h .cif-long), le-ltb (l .ring) (ringRoom d) (h .ring-long), le-ltb (l .deinterleaved) (valuesOf d) (h .read-long), le-ltb (l .depunctured) (roomOf d) (h .soft-long), le-ltb (l .words) (stepsOf (d .bitrate)) (h .words-long), le-ltb (l .bits) (stepsOf (d .bitrate)) (h .bits-long), le-ltb (l .frame) (frameRoom d) (h .frame-long))
+    rw (le-ltb (l .cif) cifBits (h .cif-long), le-ltb (l .ring) (ringLength d) (h .ring-long), le-ltb (l .deinterleaved) (valuesOf d) (h .read-long), le-ltb (l .depunctured) (depuncturedLength d) (h .soft-long), le-ltb (l .words) (stepsOf (d .bitrate)) (h .words-long), le-ltb (l .bits) (stepsOf (d .bitrate)) (h .bits-long), le-ltb (l .frame) (frameLength d) (h .frame-long))
 
 pub never-refused : NeverRefused
 unfolding feedRefusal

@@ -24,14 +24,14 @@ use Rattle.msc_handler.specs.declared.Fed.{Fed}
 use Rattle.msc_set_up.specs.declared.SetUp.{SetUp}
 use Rattle.msc_state.specs.declared.State.{State}
 use Rattle.msc_handler.specs.History.{symbolOf, Cif, valueAt, sliceValue, BoardHolds}
-use Rattle.msc_handler.specs.Promises.{Buffers, lengthsOf, refusalIn, stepOf, Turn, gathers, completes, turnOf, stretchOf, delayed}
+use Rattle.msc_handler.specs.Promises.{Buffers, lengthsOf, refusalIn, stepOf, Turn, gathers, completes, turnOf, sliceOf, delayed}
 use Rattle.msc_handler.specs.Ring.{stored, part, refilled}
 use Rattle.msc_set_up.specs.Promises.{cleared, Prepared}
-use Rattle.msc_state.specs.States.{badState, valuesOf, ringRoom, startedAt, freshState, setUpChecks, setUpRefusal, resetChecks, resetRefusal, whole, channelAfter}
+use Rattle.msc_state.specs.States.{badState, valuesOf, ringLength, startedAt, freshState, setUpChecks, setUpRefusal, resetChecks, resetRefusal, whole, channelAfter}
 use Rattle.msc_handler.proofs.Feeding.{fed-refuses, fed-gathers, fed-completes}
 use Rattle.msc_handler.proofs.History.{board-fresh, board-lent, board-symbol, board-middle, board-whole, channel-fresh, channel-lent, channel-next, channel-reads-last}
 use Rattle.msc_moves.proofs.States.{after-middle, after-whole}
-use Rattle.msc_state.proofs.Refusals.{Sound, sound, set-up-room, reset-room, Accepted as CallAccepted, accepted}
+use Rattle.msc_state.proofs.Refusals.{Sound, sound, set-up-long, reset-long, Accepted as CallAccepted, accepted}
 use Rattle.spec_sender.specs.Msc.{placeOf}
 use Rattle.thm_msc.specs.Calls.{Held, held, heldAfter, Came, came, after, HeldCall, History, RefusedCall, set-up-refused, reset-refused, feed-refused, set-up, reset, refused, fed, Holds}
 use Rattle.thm_msc.specs.Heard.{LastSixteen}
@@ -52,7 +52,7 @@ module _ {n : ℕ} {d : Description} {other : State} {ring : List ℤ} {r : SetU
   ring-kept k e = p .ring-is ∙ refused-second n k _ ring (sym (p .answer) ∙ e)
 
   -- nothing has come in
-  prepared-holds : (cif : List ℤ) → n ≡ 0 → ringRoom d ≤ length ring → Holds d (came [] []) (held (r .state) cif ring')
+  prepared-holds : (cif : List ℤ) → n ≡ 0 → ringLength d ≤ length ring → Holds d (came [] []) (held (r .state) cif ring')
   unfolding startedAt
   prepared-holds cif e needed =
       let s : r .state ≡ freshState d = p .state ∙ ap (λ (m : ℕ). unlessRefused m (freshState d) other) e in
@@ -78,7 +78,7 @@ pub stored-length : (cif soft : List ℤ) {k : ℕ} → k ≤ 17 → cifBits ≤
 unfolding stored
 stored-length cif soft {k} l m n = length-paste cif (symbolBits * k) soft symbolBits (omega arith) n
 
-pub slice-length : (d : Description) (cif : List ℤ) → d .«start_addr» + d .«sub_size» ≤ 864 → cifBits ≤ length cif → length (stretchOf d cif) ≡ valuesOf d
+pub slice-length : (d : Description) (cif : List ℤ) → d .«start_addr» + d .«sub_size» ≤ 864 → cifBits ≤ length cif → length (sliceOf d cif) ≡ valuesOf d
 unfolding part
 slice-length d cif inside l = length-take-le (valuesOf d) (drop (64 * d .«start_addr») cif) (omega (arith, length-drop (64 * d .«start_addr») cif))
 
@@ -86,21 +86,21 @@ slice-length d cif inside l = length-take-le (valuesOf d) (drop (64 * d .«start
 
 module _ {d : Description} {c : Came} {h : Held} (v : Holds d c h) where
   -- the same over other stores with the same values in their needed part
-  elsewhere : {cif ring : List ℤ} → ((p : ℕ) → p < cifBits → at cif p ≡ at (h .cif) p) → ((p : ℕ) → p < ringRoom d → at ring p ≡ at (h .ring) p) → Holds d c (held (h .state) cif ring)
+  elsewhere : {cif ring : List ℤ} → ((p : ℕ) → p < cifBits → at cif p ≡ at (h .cif) p) → ((p : ℕ) → p < ringLength d → at ring p ≡ at (h .ring) p) → Holds d c (held (h .state) cif ring)
   elsewhere e f = record { eighteen = v .eighteen; board = board-lent (v .board) e; channel = channel-lent (v .channel) f }
 
   after-refused : {h' : Held} → RefusedCall d h h' → Holds d c h'
   unfolding turnOf
-  after-refused (set-up-refused n e ring r ring' front p q) = elsewhere (λ p l. refl) (left-at (pos 0) (ringRoom d) ring (h .ring) front ring' (ring-kept p n q))
-  after-refused (reset-refused n s ring r ring' front p q) = elsewhere (λ p l. refl) (left-at (pos 0) (ringRoom d) ring (h .ring) front ring' (ring-kept p n q))
+  after-refused (set-up-refused n e ring r ring' front p q) = elsewhere (λ p l. refl) (left-at (pos 0) (ringLength d) ring (h .ring) front ring' (ring-kept p n q))
+  after-refused (reset-refused n s ring r ring' front p q) = elsewhere (λ p l. refl) (left-at (pos 0) (ringLength d) ring (h .ring) front ring' (ring-kept p n q))
   after-refused (feed-refused n s soft b r b' front-cif front-ring p q) =
       let u = fed-refuses s soft b p (is-refusal (refusalIn s soft b) (stepOf (whole s)) n (sym q)) .1 in
-      elsewhere (left-at (pos 0) cifBits (b .cif) (h .cif) front-cif (b' .cif) (ap (λ (x : Buffers). x .cif) u)) (left-at (pos 0) (ringRoom d) (b .ring) (h .ring) front-ring (b' .ring) (ap (λ (x : Buffers). x .ring) u))
+      elsewhere (left-at (pos 0) cifBits (b .cif) (h .cif) front-cif (b' .cif) (ap (λ (x : Buffers). x .cif) u)) (left-at (pos 0) (ringLength d) (b .ring) (h .ring) front-ring (b' .ring) (ap (λ (x : Buffers). x .ring) u))
 
   module _ {soft : List ℤ} {b : Buffers} {r : Fed} {b' : Buffers} (call : HeldCall d h soft b r b') where
     -- over the buffers of a call
     pub now : Holds d c (held (h .state) (b .cif) (b .ring))
-    now = elsewhere (front-at (pos 0) cifBits (b .cif) (h .cif) (call .cif-kept)) (front-at (pos 0) (ringRoom d) (b .ring) (h .ring) (call .ring-kept))
+    now = elsewhere (front-at (pos 0) cifBits (b .cif) (h .cif) (call .cif-kept)) (front-at (pos 0) (ringLength d) (b .ring) (h .ring) (call .ring-kept))
 
     abbrev s : State
     s = h .state
@@ -125,7 +125,7 @@ module _ {d : Description} {c : Came} {h : Held} (v : Holds d c h) where
         filled = stored (b .cif) (s .symbols) soft
 
         abbrev own : List ℤ
-        own = stretchOf d filled
+        own = sliceOf d filled
 
         seventeen : length (c .begun) ≡ 17
         seventeen = omega (arith, v .board .short, v .board .counted)
@@ -146,11 +146,11 @@ module _ {d : Description} {c : Came} {h : Held} (v : Holds d c h) where
             ∙ getD-drop (64 * d .«start_addr») filled i (pos 0)
             ∙ board-symbol (now .board) soft (taken .lengths .cif-long) (taken .symbol) (64 * d .«start_addr» + i) (omega (arith, place, seventeen))
 
-        ring-long : ringRoom d ≤ length (b .ring)
-        ring-long = subst (λ (e : Description). ringRoom e ≤ length (b .ring)) (v .channel .description) (taken .lengths .ring-long)
+        ring-long : ringLength d ≤ length (b .ring)
+        ring-long = subst (λ (e : Description). ringLength e ≤ length (b .ring)) (v .channel .description) (taken .lengths .ring-long)
 
         ring-is : b' .ring ≡ refilled (b .ring) (valuesOf d) (s .channel .«ring_index») own
-        ring-is = fed-completes s soft b (call .promise) none full .ring-is ∙ ap (λ (e : Description). refilled (b .ring) (valuesOf e) (s .channel .«ring_index») (stretchOf e filled)) (v .channel .description)
+        ring-is = fed-completes s soft b (call .promise) none full .ring-is ∙ ap (λ (e : Description). refilled (b .ring) (valuesOf e) (s .channel .«ring_index») (sliceOf e filled)) (v .channel .description)
 
         more : length (c .cifs ++ (begun' ∷ [])) ≡ length (c .cifs) + 1
         more = length-append (c .cifs) (begun' ∷ [])
@@ -183,8 +183,8 @@ module _ {d : Description} {c : Came} {h : Held} (v : Holds d c h) where
     next (gives completes) e = let t = turn-completes (refusalIn s soft b) (whole s) e in next-whole (t .0) (leb-true 17 (s .symbols) (t .1))
 
 pub holds : IsHeld
-holds d _ _ (set-up cif ring r ring' p e) = prepared-holds p cif (not-refused p e) (set-up-room d (length ring) (not-refused p e))
-holds d _ _ (reset s cif ring r ring' q p e) = subst (λ (u : Description). Holds u (came [] []) (held (r .state) cif ring')) q (prepared-holds p cif (not-refused p e) (reset-room s (length ring) (not-refused p e)))
+holds d _ _ (set-up cif ring r ring' p e) = prepared-holds p cif (not-refused p e) (set-up-long d (length ring) (not-refused p e))
+holds d _ _ (reset s cif ring r ring' q p e) = subst (λ (u : Description). Holds u (came [] []) (held (r .state) cif ring')) q (prepared-holds p cif (not-refused p e) (reset-long s (length ring) (not-refused p e)))
 holds d _ c (refused {h} x q) = after-refused (holds d h c x) q
 holds d _ _ (fed {h} {c} soft b r b' x call) = next (holds d h c x) call (turnOf (h .state) soft b) refl
 

@@ -12,7 +12,7 @@ use lib.IntN.{ℤ}
 use Rattle.fec_protection.specs.declared.Description.{Description}
 use Rattle.fec_protection.proofs.Accepted.{units-inside}
 use Rattle.msc_handler.specs.declared.Fed.{Fed}
-use Rattle.msc_handler.specs.Promises.{Buffers, refusalIn, stretchOf}
+use Rattle.msc_handler.specs.Promises.{Buffers, refusalIn, sliceOf}
 use Rattle.msc_handler.specs.Ring.{stored, refilled}
 use Rattle.msc_handler.proofs.Feeding.{fed-gathers, fed-completes}
 use Rattle.msc_state.specs.States.{valuesOf}
@@ -34,7 +34,7 @@ module _ {d : Description} {h : Held} {c : Came} (x : History d h c) {soft : Lis
   filled = stored (b .cif) (h .state .symbols) soft
 
   abbrev own : List ℤ
-  own = stretchOf d filled
+  own = sliceOf d filled
 
   cif-same : length filled ≡ length (b .cif)
   cif-same = stored-length (b .cif) soft (state-sound x .symbols) (f .lengths .cif-long) (f .long)
@@ -58,7 +58,7 @@ module _ {d : Description} {h : Held} {c : Came} (x : History d h c) {soft : Lis
       go (no l) =
           let g = fed-completes (h .state) soft b (f .call .promise) none (omega arith) in
           let ring-is : b' .ring ≡ refilled (b .ring) (valuesOf d) (h .state .channel .«ring_index») own =
-          g .ring-is ∙ ap (λ (u : Description). refilled (b .ring) (valuesOf u) (h .state .channel .«ring_index») (stretchOf u filled)) (holds d h c x .channel .description) in
+          g .ring-is ∙ ap (λ (u : Description). refilled (b .ring) (valuesOf u) (h .state .channel .«ring_index») (sliceOf u filled)) (holds d h c x .channel .description) in
           record {
             cif-long = omega (arith, ap length (g .kept), cif-same, f .lengths .cif-long);
             ring-long = omega (arith, ap length ring-is, ring-same (h .state .channel .«ring_index») (state-sound x .index), f .lengths .ring-long);

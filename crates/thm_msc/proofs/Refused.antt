@@ -12,7 +12,7 @@ use Rattle.msc_handler.specs.declared.Fed.{Fed}
 use Rattle.msc_handler.specs.Promises.{Buffers, buffers, turnOf, FeedPromise}
 use Rattle.msc_handler.proofs.Feeding.{feed-refused}
 use Rattle.msc_state.specs.declared.State.{State}
-use Rattle.msc_state.specs.States.{badState, ringRoom, feedRefusal, noDescription}
+use Rattle.msc_state.specs.States.{badState, ringLength, feedRefusal, noDescription}
 use Rattle.thm_msc.specs.Calls.{Held, held, Came, FrontOf, leftIn, History, refused, RefusedCall, feed-refused as a-refused-feed}
 use Rattle.thm_msc.proofs.Fronts.{own-front, own-left}
 
@@ -31,14 +31,14 @@ turned-away : (b : Buffers) → turnOf bad [] b ≡ refuses 10
 unfolding turnOf feedRefusal badState
 turned-away b = refl
 
-pub refused-call : (d : Description) (h : Held) (cif ring : List ℤ) → FrontOf cifBits cif (h .cif) → FrontOf (ringRoom d) ring (h .ring) → RefusedCall d h (held (h .state) (leftIn cif (h .cif)) (leftIn ring (h .ring)))
+pub refused-call : (d : Description) (h : Held) (cif ring : List ℤ) → FrontOf cifBits cif (h .cif) → FrontOf (ringLength d) ring (h .ring) → RefusedCall d h (held (h .state) (leftIn cif (h .cif)) (leftIn ring (h .ring)))
 refused-call d h cif ring e f =
     let b : Buffers = buffers cif ring [] [] [] [] [] in
     a-refused-feed 10 bad [] b ten b e f (refused-ten b) (turned-away b)
 
 -- so a caller may go on with other buffers that hold the same
-pub swapped : {d : Description} {h : Held} {c : Came} → History d h c → (cif ring : List ℤ) → FrontOf cifBits cif (h .cif) → FrontOf (ringRoom d) ring (h .ring) → History d (held (h .state) (leftIn cif (h .cif)) (leftIn ring (h .ring))) c
+pub swapped : {d : Description} {h : Held} {c : Came} → History d h c → (cif ring : List ℤ) → FrontOf cifBits cif (h .cif) → FrontOf (ringLength d) ring (h .ring) → History d (held (h .state) (leftIn cif (h .cif)) (leftIn ring (h .ring))) c
 swapped {d} {h} x cif ring e f = refused x (refused-call d h cif ring e f)
 
-pub ring-swapped : {d : Description} {h : Held} {c : Came} → History d h c → (ring : List ℤ) → FrontOf (ringRoom d) ring (h .ring) → History d (held (h .state) (h .cif) (leftIn ring (h .ring))) c
+pub ring-swapped : {d : Description} {h : Held} {c : Came} → History d h c → (ring : List ℤ) → FrontOf (ringLength d) ring (h .ring) → History d (held (h .state) (h .cif) (leftIn ring (h .ring))) c
 ring-swapped {d} {h} {c} x ring f = subst (λ (cif : List ℤ). History d (held (h .state) cif (leftIn ring (h .ring))) c) (own-left (h .cif)) (swapped x (h .cif) ring (own-front cifBits (h .cif)) f)

@@ -26,7 +26,7 @@ use Rattle.msc_state.specs.declared.State.{State}
 use Rattle.msc_handler.specs.History.{symbolOf, Cif, valueAt}
 use Rattle.msc_handler.specs.Promises.{saidOf, Buffers, Turn, gathers, completes, turnOf, gathered, Completed, Feeds}
 use Rattle.msc_set_up.specs.Promises.{Prepared}
-use Rattle.msc_state.specs.States.{ringRoom, setUpRefusal, resetRefusal}
+use Rattle.msc_state.specs.States.{ringLength, setUpRefusal, resetRefusal}
 use Rattle.thm_msc.specs.Answers.{Call, callOf, Waits, Yields, Taken, waits}
 use Rattle.thm_msc.specs.Calls.{Held, heldAfter, Came, came, after, History, set-up, reset, fed}
 use Rattle.thm_msc.specs.Heard.{keptOf, Sixteen}
@@ -50,11 +50,11 @@ prepared-gives p none = p .answer ∙ ap (λ (k : ℕ). outcome {A = Unit {0}} k
 started : {d : Description} {first : Outcome (Unit {0})} {h : Held} → Start d first h → Started d first h
 unfolding setUpRefusal resetRefusal
 started {d} (by-set-up cif ring r ring' ok m p) =
-    let none : setUpRefusal d (length ring) ≡ 0 = rw (ok, le-ltb (length ring) (ringRoom d) m) in
+    let none : setUpRefusal d (length ring) ≡ 0 = rw (ok, le-ltb (length ring) (ringLength d) m) in
     record { starts = prepared-gives p none; since = set-up cif ring r ring' p (prepared-gives p none) }
 started {d} (by-reset s cif ring r ring' e bad m p) =
-    let here : ringRoom (s .channel .description) ≤ length ring = subst (λ (u : Description). ringRoom u ≤ length ring) (sym e) m in
-    let none : resetRefusal s (length ring) ≡ 0 = rw (bad, le-ltb (length ring) (ringRoom (s .channel .description)) here) in
+    let here : ringLength (s .channel .description) ≤ length ring = subst (λ (u : Description). ringLength u ≤ length ring) (sym e) m in
+    let none : resetRefusal s (length ring) ≡ 0 = rw (bad, le-ltb (length ring) (ringLength (s .channel .description)) here) in
     record { starts = prepared-gives p none; since = reset s cif ring r ring' e p (prepared-gives p none) }
 
 -- ---- one call that waits

@@ -11,7 +11,7 @@ use Rattle.refusal.specs.Outcome.{gives, refuses}
 use Rattle.msc_handler.specs.declared.Fed.{Fed}
 use Rattle.msc_set_up.specs.declared.SetUp.{SetUp}
 use Rattle.msc_state.specs.declared.State.{State}
-use Rattle.msc_state.specs.States.{ringRoom}
+use Rattle.msc_state.specs.States.{ringLength}
 use Rattle.msc_handler.specs.History.{symbolOf, Cif, BoardHolds, ChannelHolds}
 use Rattle.msc_handler.specs.Promises.{Buffers, Turn, gathers, completes, turnOf, FeedPromise}
 use Rattle.msc_set_up.specs.Promises.{SetUpPromise, ResetPromise}
@@ -46,7 +46,7 @@ after (gives completes) soft c = came (c .cifs ++ ((c .begun ++ (symbolOf soft �
 -- What lies behind that part, the stores' lengths and the five work buffers may be others at each call
 pub record HeldCall (d : Description) (h : Held) (soft : List ℤ) (b : Buffers) (r : Fed) (b' : Buffers) : Type 0 where
   pub cif-kept : take cifBits (b .cif) ≡ take cifBits (h .cif)
-  pub ring-kept : take (ringRoom d) (b .ring) ≡ take (ringRoom d) (h .ring)
+  pub ring-kept : take (ringLength d) (b .ring) ≡ take (ringLength d) (h .ring)
   pub promise : FeedPromise (h .state) soft b r b'
 
 -- a refused call may be handed less: a buffer whose needed part is what was held as far as it goes
@@ -59,9 +59,9 @@ leftIn given' held = given' ++ drop (length given') held
 
 -- a refused call of one of the three: of any state or description; the caller goes on with the state that it held and the stores as the call left them
 pub data RefusedCall (d : Description) (h : Held) : Held → Type 0 where
-  set-up-refused : (n : ℕ) (e : Description) (ring : List ℤ) (r : SetUp) (ring' : List ℤ) → FrontOf (ringRoom d) ring (h .ring) → SetUpPromise e ring r ring' → judgedAs (r .answer) ≡ refuses n → RefusedCall d h (held (h .state) (h .cif) (leftIn ring' (h .ring)))
-  reset-refused : (n : ℕ) (s : State) (ring : List ℤ) (r : SetUp) (ring' : List ℤ) → FrontOf (ringRoom d) ring (h .ring) → ResetPromise s ring r ring' → judgedAs (r .answer) ≡ refuses n → RefusedCall d h (held (h .state) (h .cif) (leftIn ring' (h .ring)))
-  feed-refused : (n : ℕ) (s : State) (soft : List ℤ) (b : Buffers) (r : Fed) (b' : Buffers) → FrontOf cifBits (b .cif) (h .cif) → FrontOf (ringRoom d) (b .ring) (h .ring) → FeedPromise s soft b r b' → turnOf s soft b ≡ refuses n
+  set-up-refused : (n : ℕ) (e : Description) (ring : List ℤ) (r : SetUp) (ring' : List ℤ) → FrontOf (ringLength d) ring (h .ring) → SetUpPromise e ring r ring' → judgedAs (r .answer) ≡ refuses n → RefusedCall d h (held (h .state) (h .cif) (leftIn ring' (h .ring)))
+  reset-refused : (n : ℕ) (s : State) (ring : List ℤ) (r : SetUp) (ring' : List ℤ) → FrontOf (ringLength d) ring (h .ring) → ResetPromise s ring r ring' → judgedAs (r .answer) ≡ refuses n → RefusedCall d h (held (h .state) (h .cif) (leftIn ring' (h .ring)))
+  feed-refused : (n : ℕ) (s : State) (soft : List ℤ) (b : Buffers) (r : Fed) (b' : Buffers) → FrontOf cifBits (b .cif) (h .cif) → FrontOf (ringLength d) (b .ring) (h .ring) → FeedPromise s soft b r b' → turnOf s soft b ≡ refuses n
       → RefusedCall d h (held (h .state) (leftIn (b' .cif) (h .cif)) (leftIn (b' .ring) (h .ring)))
 
 -- the calls since a description was set up, or any state that has it was reset: any number, in any order

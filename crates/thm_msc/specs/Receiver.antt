@@ -5,10 +5,10 @@ use lib.ListN.{length}
 use lib.IntN.{ℤ}
 use Rattle.spec_en300401.specs.Interleaving.{symbolBits, cifBits}
 use Rattle.fec_protection.specs.declared.Description.{Description}
-use Rattle.fec_protection.specs.Refusals.{roomOf}
+use Rattle.fec_protection.specs.Refusals.{depuncturedLength}
 use Rattle.msc_handler.specs.declared.Fed.{Fed}
 use Rattle.msc_state.specs.declared.State.{State}
-use Rattle.msc_state.specs.States.{valuesOf, ringRoom, frameRoom, stepsOf}
+use Rattle.msc_state.specs.States.{valuesOf, ringLength, frameLength, stepsOf}
 use Rattle.msc_handler.specs.Promises.{Buffers, buffers, FeedPromise}
 use Rattle.thm_msc.specs.Answers.{Call}
 use Rattle.thm_msc.specs.Calls.{Held, heldAfter}
@@ -40,10 +40,10 @@ pub record Feeder : Type 1 where
 pub record BringsEnough (d : Description) (w : Brought) : Type 0 where
   pub symbol-long : symbolBits ≤ length (w .soft)
   pub read-long : valuesOf d ≤ length (w .deinterleaved)
-  pub soft-long : roomOf d ≤ length (w .depunctured)
+  pub soft-long : depuncturedLength d ≤ length (w .depunctured)
   pub words-long : stepsOf (d .bitrate) ≤ length (w .words)
   pub bits-long : stepsOf (d .bitrate) ≤ length (w .bits)
-  pub frame-long : frameRoom d ≤ length (w .frame)
+  pub frame-long : frameLength d ≤ length (w .frame)
 
 -- so does each of these calls, and the function takes it
 pub data AllEnough (f : Feeder) (d : Description) : List Brought → Type 0 where
@@ -53,7 +53,7 @@ pub data AllEnough (f : Feeder) (d : Description) : List Brought → Type 0 wher
 -- the two stores have their needed lengths
 pub record StoresLong (d : Description) (h : Held) : Type 0 where
   pub cif-long : cifBits ≤ length (h .cif)
-  pub ring-long : ringRoom d ≤ length (h .ring)
+  pub ring-long : ringLength d ≤ length (h .ring)
 
 abbrev pub softsOf : List Brought → List (List ℤ)
 softsOf ws = map (λ (w : Brought). w .soft) ws

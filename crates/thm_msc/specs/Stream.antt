@@ -16,7 +16,7 @@ use Rattle.msc_handler.specs.declared.Answer.the-variants.{Waiting}
 use Rattle.msc_handler.specs.declared.Fed.{Fed}
 use Rattle.msc_set_up.specs.declared.SetUp.{SetUp}
 use Rattle.msc_state.specs.declared.State.{State}
-use Rattle.msc_state.specs.States.{badState, ringRoom, freshState, noDescription}
+use Rattle.msc_state.specs.States.{badState, ringLength, freshState, noDescription}
 use Rattle.msc_handler.specs.Promises.{Buffers}
 use Rattle.msc_set_up.specs.Promises.{SetUpPromise, ResetPromise}
 use Rattle.thm_msc.specs.Answers.{Enough, Call, callOf, Waits, YieldsFrame, Taken}
@@ -26,8 +26,8 @@ use Rattle.spec_sender.specs.Msc.{Sender, placeOf, cifBit}
 
 -- a description that is accepted is set up, or a state that has it and is not bad is reset, over a ring of its needed length: what the call answers and what is then held
 pub data Start (d : Description) : Outcome (Unit {0}) → Held → Type 0 where
-  by-set-up : (cif ring : List ℤ) (r : SetUp) (ring' : List ℤ) → Accepted d → ringRoom d ≤ length ring → SetUpPromise d ring r ring' → Start d (judgedAs (r .answer)) (held (r .state) cif ring')
-  by-reset : (s : State) (cif ring : List ℤ) (r : SetUp) (ring' : List ℤ) → s .channel .description ≡ d → badState s ≡ false → ringRoom d ≤ length ring → ResetPromise s ring r ring'
+  by-set-up : (cif ring : List ℤ) (r : SetUp) (ring' : List ℤ) → Accepted d → ringLength d ≤ length ring → SetUpPromise d ring r ring' → Start d (judgedAs (r .answer)) (held (r .state) cif ring')
+  by-reset : (s : State) (cif ring : List ℤ) (r : SetUp) (ring' : List ℤ) → s .channel .description ≡ d → badState s ≡ false → ringLength d ≤ length ring → ResetPromise s ring r ring'
       → Start d (judgedAs (r .answer)) (held (r .state) cif ring')
 
 -- a feed call with its needed lengths, and a symbol of 3,072 values; more are not looked at

@@ -1,4 +1,4 @@
--- `c_msc::reset` meets its contract: the state's refusal, or the room's answer.
+-- `c_msc::reset` meets its contract: the state's refusal, or the answer below.
 -- Assumes nothing.
 use mathlib.Core.List.{List}
 use Prim.Native.Nat.{ℕ}

@@ -11,7 +11,7 @@ use Rattle.fec_protection.specs.declared.Description.{Description}
 use Rattle.fec_protection.specs.declared.ProtectionParams.{ProtectionParams}
 use Rattle.fec_protection.specs.Answers.{judgedAs}
 use Rattle.fec_protection.specs.Params.{paramsOf}
-use Rattle.fec_protection.specs.Refusals.{Accepted, profileOf, roomOf}
+use Rattle.fec_protection.specs.Refusals.{Accepted, profileOf, depuncturedLength}
 use Rattle.fec_protection.proofs.Accepted.{accepted-from, accepted-params, usable, word-length}
 use Rattle.fec_depuncturing.specs.Code.{Fillable}
 use Rattle.fec_depuncturing.proofs.Depunctures.{params-fillable, fill-refused, fill-given, msc-refused, too-short, long-enough}
@@ -40,7 +40,7 @@ accepted c = accepted-from (start c .args .d) (judged c .judge .ensures) (ap jud
 -- what is known where the places are filled
 pub record Ready (d : Description) (params : ProtectionParams) (out : List ℤ) : Type 0 where
   pub ok : Accepted d
-  pub fills : roomOf d ≤ length out
+  pub fills : depuncturedLength d ≤ length out
   pub held : params ≡ paramsOf (profileOf d)
 
 ready : (c : tie.After-fill-profile-arg) → let a = start (told (filling c)) .args in Ready (a .d) (c .before .before .protection-params .result .params) (a .out .now)

@@ -14,7 +14,7 @@ made p = p .before .before .before .before .before .before .before .before
 abbrev start : tie.After-some-bits → tie.Start
 start m = m .before .before .before .before
 
--- what is lent to it
+-- what is given to it
 abbrev given : tie.After-process-fic → Lent
 given p = lent (made p .before .before .some-depunctured .result) (made p .before .some-words .result) (made p .some-bits .result) (start (made p) .args .fibs .now)
 

@@ -29,7 +29,7 @@ next : {bits old fibs new : List ℕ} {kept j k : ℕ} → length bits ≡ 768 �
     → KeptFib (take (256 * j + 256 - 256 * j) (drop (256 * j) bits)) (take (length fibs - 32 * kept) (drop (32 * kept) fibs)) k new
     → length new ≡ length (take (length fibs - 32 * kept) (drop (32 * kept) fibs))
     → Inv bits old (putMid (32 * kept) (length fibs - 32 * kept) fibs new) (kept + k) (j + 1)
-next {bits} {old} {fibs} {new} {kept} {j} {k} e h room v w l =
+next {bits} {old} {fibs} {new} {kept} {j} {k} e h fits-in v w l =
     let fits : 32 * kept ≤ length fibs = omega (arith, few v, v .long) in
     let one : KeptFib (fibOf bits j) (drop (32 * kept) fibs) k new =
     subst₂ (λ (n : ℕ) (o : List ℕ). KeptFib (take n (drop (256 * j) bits)) o k new) (size-of-part (256 * j) 256) (tail-part (32 * kept) fibs fits) w in

@@ -1,4 +1,4 @@
--- `fic_handler::pack_fib` meets its contract: the output has room, and zeros and ones are themselves as bits.
+-- `fic_handler::pack_fib` meets its contract: the output is long enough, and zeros and ones are themselves as bits.
 -- Assumes nothing.
 use borrow.Author.Needs.{needs}
 use mathlib.Core.Path.{_≡_, ap, _∙_}

@@ -61,7 +61,7 @@ part-decode-block-end : tie.Need-part-decode-block-end
 part-decode-block-end c = still (c .before .before .depuncture-fic .kept .1 .0) (entryFromDepunctured2 c .pre .values)
 
 decode-block-requires : tie.Need-decode-block-requires
-decode-block-requires c κs = let room = entryFromDecodeBlockArg3 c .pre in (c .before .before .decode-block-arg .given .2, (room .choices, room .places))
+decode-block-requires c κs = let fits-in = entryFromDecodeBlockArg3 c .pre in (c .before .before .decode-block-arg .given .2, (fits-in .choices, fits-in .places))
 
 sub-keep-fibs : tie.Need-sub-keep-fibs
 sub-keep-fibs c = from-0 768

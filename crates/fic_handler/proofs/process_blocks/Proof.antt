@@ -34,17 +34,17 @@ record Inv (xs : List ℤ) (n : ℕ) (before after : Lent) (passed : List ℕ) (
 joined-length : (a b c : List ℤ) → length (joined a b c) ≡ length a + (length b + length c)
 joined-length a b c = length-append a (b ++ c) ∙ ap (λ (n : ℕ). length a + n) (length-append b c)
 
-room-left : {xs : List ℤ} {n : ℕ} {before after : Lent} {passed : List ℕ} {quality : List Quality} {sum b : ℕ} → BlocksFit n xs before → b < n → Inv xs n before after passed quality sum b → 32 * sum + 96 ≤ length (after .fibs)
-room-left r h v = omega (arith, v .run .few, v .long-fibs, r .out)
+places-left : {xs : List ℤ} {n : ℕ} {before after : Lent} {passed : List ℕ} {quality : List Quality} {sum b : ℕ} → BlocksFit n xs before → b < n → Inv xs n before after passed quality sum b → 32 * sum + 96 ≤ length (after .fibs)
+places-left r h v = omega (arith, v .run .few, v .long-fibs, r .out)
 
 block-length : {n b : ℕ} {before : Lent} {block : List ℤ} (x y z : List ℤ) → BlocksFit n (joined x y z) before → b < n → block ≡ take 2304 (drop (2304 * b) (joined x y z)) → length block ≡ 2304
-block-length {n} {b} x y z room h e = ap length e ∙ simp (length-take, length-drop) (omega (arith, room .whole))
+block-length {n} {b} x y z fits-in h e = ap length e ∙ simp (length-take, length-drop) (omega (arith, fits-in .whole))
 
 at-most-three : {values : List ℤ} {before after : Lent} {count : ℕ} {q : Quality} → BlockProcessed values before count q after → count ≤ 3
 at-most-three p = omega (arith, p .count-is, count-le (dataBits (p .block .decoded)) 3)
 
 block-inside : {n b : ℕ} {before : Lent} (x y z : List ℤ) → BlocksFit n (joined x y z) before → b < n → (2304 * b + 2304 ≤ length x + (length y + length z)) × (2304 * b < 10000)
-block-inside x y z room h = (omega (arith, room .whole, joined-length x y z), omega (arith, room .few))
+block-inside x y z fits-in h = (omega (arith, fits-in .whole, joined-length x y z), omega (arith, fits-in .few))
 
 -- the bounds of the numbers that the code makes, each shown apart from the walk
 bounds : {n b : ℕ} → n ≤ 4 → b < n → (b < 4) × Fits w64 (2304 * b) × Fits w64 (b * 8) × Fits w64 (b * 16) × Fits w64 (b + 1)
@@ -54,10 +54,10 @@ sum-bounds : {n b sum count : ℕ} → n ≤ 4 → b < n → sum ≤ 3 * b → c
 sum-bounds few h s k = (omega arith, omega arith)
 
 start-inside : {xs : List ℤ} {n : ℕ} {before after : Lent} {passed : List ℕ} {quality : List Quality} {sum b : ℕ} → BlocksFit n xs before → b < n → Inv xs n before after passed quality sum b → 32 * sum ≤ length (after .fibs)
-start-inside r h v = omega (arith, room-left r h v)
+start-inside r h v = omega (arith, places-left r h v)
 
-tail-room : {xs : List ℤ} {n : ℕ} {before after : Lent} {passed : List ℕ} {quality : List Quality} {sum b : ℕ} → BlocksFit n xs before → b < n → Inv xs n before after passed quality sum b → 96 ≤ length (take (length (after .fibs) - 32 * sum) (drop (32 * sum) (after .fibs)))
-tail-room r h v = simp (length-take, length-drop) (omega (arith, room-left r h v))
+tail-fits : {xs : List ℤ} {n : ℕ} {before after : Lent} {passed : List ℕ} {quality : List Quality} {sum b : ℕ} → BlocksFit n xs before → b < n → Inv xs n before after passed quality sum b → 96 ≤ length (take (length (after .fibs) - 32 * sum) (drop (32 * sum) (after .fibs)))
+tail-fits r h v = simp (length-take, length-drop) (omega (arith, places-left r h v))
 
 nearer : {n b : ℕ} → b < n → n - (b + 1) < n - b
 nearer h = omega arith
@@ -71,8 +71,8 @@ next : {xs : List ℤ} {n b sum count : ℕ} {before after : Lent} {passed : Lis
     → BlockProcessed block (lent (after .depunctured) (after .words) (after .bits) (take (length (after .fibs) - 32 * sum) (drop (32 * sum) (after .fibs)))) count q (lent dep ws bs new)
     → length dep ≡ length (after .depunctured) → length ws ≡ length (after .words) → length bs ≡ length (after .bits) → length new ≡ length (take (length (after .fibs) - 32 * sum) (drop (32 * sum) (after .fibs)))
     → Inv xs n before (lent dep ws bs (putMid (32 * sum) (length (after .fibs) - 32 * sum) (after .fibs) new)) (set passed b count) (set quality b q) (sum + count) (b + 1)
-next {xs} {n} {b} {sum} {count} {before} {after} {passed} {quality} {q} {block} {dep} {ws} {bs} {new} inside room h e v p ld lw lb lf =
-    let fits : 32 * sum ≤ length (after .fibs) = omega (arith, room-left room h v) in
+next {xs} {n} {b} {sum} {count} {before} {after} {passed} {quality} {q} {block} {dep} {ws} {bs} {new} inside fits-in h e v p ld lw lb lf =
+    let fits : 32 * sum ≤ length (after .fibs) = omega (arith, places-left fits-in h v) in
     let one : BlockProcessed (blockOf xs b) (behind after sum) count q (lent dep ws bs new) =
     subst₂ (λ (vs : List ℤ) (fs : List ℕ). BlockProcessed vs (lent (after .depunctured) (after .words) (after .bits) fs) count q (lent dep ws bs new)) e (tail-part (32 * sum) (after .fibs) fits) p in
     record {
@@ -81,7 +81,7 @@ next {xs} {n} {b} {sum} {count} {before} {after} {passed} {quality} {q} {block} 
       long-words = lw ∙ v .long-words;
       long-bits = lb ∙ v .long-bits;
       long-fibs = same-len-mid (32 * sum) (length (after .fibs) - 32 * sum) (after .fibs) new lf ∙ v .long-fibs;
-      run = subst (λ (fs : List ℕ). Run xs before (b + 1) (sum + count) (set passed b count) (set quality b q) (lent dep ws bs fs)) (sym (tail-put (32 * sum) (after .fibs) fits new)) (run-next xs before b sum count passed quality after (lent dep ws bs new) q (omega (arith, room .few)) (v .run) one);
+      run = subst (λ (fs : List ℕ). Run xs before (b + 1) (sum + count) (set passed b count) (set quality b q) (lent dep ws bs fs)) (sym (tail-put (32 * sum) (after .fibs) fits new)) (run-next xs before b sum count passed quality after (lent dep ws bs new) q (omega (arith, fits-in .few)) (v .run) one);
     }
 
 -- after the last block
@@ -207,8 +207,8 @@ slice-aggregate-process-block c =
     let taken = c .before .before .loop-test .taken in
     let start = entryFromAtLoop turn in
     let v = turn .loop .inv in
-    let room = start .pre in
-    sym (block-length (start .args .first .now) (start .args .second .now) (start .args .third .now) room taken (c .before .gather .ensures))
+    let fits-in = start .pre in
+    sym (block-length (start .args .first .now) (start .args .second .now) (start .args .third .now) fits-in taken (c .before .gather .ensures))
 
 sub-process-block : tie.Need-sub-process-block Inv-loop μ-loop
 sub-process-block c = start-inside (entryFromProcessBlockArg3 c .pre) (inLoopFromProcessBlockArg3 c .loop-test .taken) (atLoopFromProcessBlockArg3 c .loop .inv)
@@ -225,13 +225,13 @@ process-block-requires c κs =
     let taken = inLoopFromProcessBlockArg4 c .loop-test .taken in
     let start = entryFromAtLoop turn in
     let v = turn .loop .inv in
-    let room = start .pre in
+    let fits-in = start .pre in
     record {
-      whole = block-length (start .args .first .now) (start .args .second .now) (start .args .third .now) room taken (afterGatherFromProcessBlockArg4 c .gather .ensures);
-      values = subst (λ (m : ℕ). 3096 ≤ m) (sym (v .long-depunctured)) (room .values);
-      choices = subst (λ (m : ℕ). 774 ≤ m) (sym (v .long-words)) (room .choices);
-      places = subst (λ (m : ℕ). 774 ≤ m) (sym (v .long-bits)) (room .places);
-      out = tail-room room taken v;
+      whole = block-length (start .args .first .now) (start .args .second .now) (start .args .third .now) fits-in taken (afterGatherFromProcessBlockArg4 c .gather .ensures);
+      values = subst (λ (m : ℕ). 3096 ≤ m) (sym (v .long-depunctured)) (fits-in .values);
+      choices = subst (λ (m : ℕ). 774 ≤ m) (sym (v .long-words)) (fits-in .choices);
+      places = subst (λ (m : ℕ). 774 ≤ m) (sym (v .long-bits)) (fits-in .places);
+      out = tail-fits fits-in taken v;
     }
 
 mul-passed : tie.Need-mul-passed Inv-loop μ-loop
@@ -261,9 +261,9 @@ loop-again c =
     let taken = inLoopFromStructKnown c .loop-test .taken in
     let start = entryFromAtLoop turn in
     let v = turn .loop .inv in
-    let room = start .pre in
+    let fits-in = start .pre in
     let done = afterProcessBlock c .process-block in
-    next (one-more taken) room taken (afterGatherFromStructKnown c .gather .ensures) v (done .ensures) (done .kept .1 .0) (done .kept .1 .1 .0) (done .kept .1 .1 .1 .0) (done .kept .1 .1 .1 .1 .0)
+    next (one-more taken) fits-in taken (afterGatherFromStructKnown c .gather .ensures) v (done .ensures) (done .kept .1 .0) (done .kept .1 .1 .0) (done .kept .1 .1 .1 .0) (done .kept .1 .1 .1 .1 .0)
 
 same-length : tie.Need-same-length Inv-loop μ-loop
 same-length c =

@@ -1,4 +1,4 @@
--- `msc_handler::decode_frame` meets its contract: an accepted description, with room, is depunctured to the values of a frame.
+-- `msc_handler::decode_frame` meets its contract: an accepted description, with the needed lengths, is depunctured to the values of a frame.
 -- Assumes nothing.
 use borrow.Author.Needs.{needs}
 use mathlib.Core.Path.{_≡_, sym, ap, _∙_, subst}
@@ -11,7 +11,7 @@ use lib.Seq.{length-take-le, take-at}
 use Rattle.spec_en300401.specs.Puncturing.{mask, depuncture}
 use Rattle.spec_en300401.proofs.Puncturing.{length-depuncture}
 use Rattle.refusal.specs.Outcome.{unlessRefused}
-use Rattle.fec_protection.specs.Refusals.{profileOf, roomOf}
+use Rattle.fec_protection.specs.Refusals.{profileOf, depuncturedLength}
 use Rattle.fec_protection.proofs.Profiles.{accepted-length, accepted-rate}
 use Rattle.fec_depuncturing.proofs.Depunctures.{long-enough}
 use Rattle.fec_viterbi.specs.Decoders.{endsOf}
@@ -37,11 +37,11 @@ module _ (c : tie.After-depuncture-msc) where
   soft-long : length soft ≡ 96 * start .args .d .bitrate + 24
   soft-long = length-depuncture (mask (profileOf (start .args .d))) _ ∙ accepted-length (start .args .d) rate-small (start .pre .none)
 
-  dep-is : c .depuncture-msc .last .1 .1 .0 ≡ soft ++ drop (roomOf (start .args .d)) (start .args .depunctured .now)
+  dep-is : c .depuncture-msc .last .1 .1 .0 ≡ soft ++ drop (depuncturedLength (start .args .d)) (start .args .depunctured .now)
   dep-is =
       let d = start .args .d in
       let old = start .args .depunctured .now in
-      c .depuncture-msc .ensures .places ∙ ap (λ (n : ℕ). unlessRefused n (soft ++ drop (roomOf d) old) old) (long-enough d (take (valuesOf d) (start .args .deinterleaved .now)) old (start .pre .none) (start .pre .soft-long))
+      c .depuncture-msc .ensures .places ∙ ap (λ (n : ℕ). unlessRefused n (soft ++ drop (depuncturedLength d) old) old) (long-enough d (take (valuesOf d) (start .args .deinterleaved .now)) old (start .pre .none) (start .pre .soft-long))
 
   front-is : take (96 * start .args .d .bitrate + 24) (c .depuncture-msc .last .1 .1 .0) ≡ soft
   front-is = ap (take (96 * start .args .d .bitrate + 24)) dep-is ∙ take-at soft _ (96 * start .args .d .bitrate + 24) soft-long

@@ -3,7 +3,7 @@
 use borrow.Author.Needs.{needs}
 use mathlib.Core.Path.{refl, sym, _∙_}
 use Rattle.msc_set_up.proofs.Preparing.{prepared-refused, prepared-given}
-use Rattle.msc_state.proofs.Refusals.{reset-room}
+use Rattle.msc_state.proofs.Refusals.{reset-long}
 use Rattle.msc_set_up.proofs.reset.Statement.{statement}
 use Rattle.msc_set_up.proofs.reset.Tie as tie
 
@@ -23,7 +23,7 @@ returns c = prepared-refused (c .before .reset-refusal .ensures) (c .if1 .taken)
 clear-ring-requires : tie.Need-clear-ring-requires
 clear-ring-requires c κs =
     let s = start c in
-    reset-room (s .args .state) _ (sym (c .before .before .reset-refusal .ensures) ∙ c .before .if1 .left)
+    reset-long (s .args .state) _ (sym (c .before .before .reset-refusal .ensures) ∙ c .before .if1 .left)
 
 started-requires : tie.Need-started-requires
 started-requires c κs = search needs

@@ -4,7 +4,7 @@ use borrow.Author.Needs.{needs}
 use mathlib.Core.Path.{sym, ap, _∙_}
 use Rattle.msc_state.specs.States.{freshState}
 use Rattle.msc_set_up.proofs.Preparing.{prepared-refused, prepared-given}
-use Rattle.msc_state.proofs.Refusals.{set-up-room}
+use Rattle.msc_state.proofs.Refusals.{set-up-long}
 use Rattle.msc_set_up.proofs.set_up.Statement.{statement}
 use Rattle.msc_set_up.proofs.set_up.Tie as tie
 
@@ -32,7 +32,7 @@ returns c =
 clear-ring-requires : tie.Need-clear-ring-requires
 clear-ring-requires c κs =
     let s = start c in
-    set-up-room (s .args .d) _ (sym (c .before .before .set-up-refusal .ensures) ∙ c .before .if1 .left)
+    set-up-long (s .args .d) _ (sym (c .before .before .set-up-refusal .ensures) ∙ c .before .if1 .left)
 
 started-requires-2 : tie.Need-started-requires-2
 started-requires-2 c κs = search needs

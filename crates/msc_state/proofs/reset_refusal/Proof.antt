@@ -5,7 +5,7 @@ use mathlib.Core.Path.{refl}
 use mathlib.Core.List.{[], _∷_}
 use lib.Dec.{ltb}
 use Rattle.refusal.specs.Outcome.{check}
-use Rattle.msc_state.specs.States.{badState, ringRoom, resetRefusal}
+use Rattle.msc_state.specs.States.{badState, ringLength, resetRefusal}
 use Rattle.refusal.proofs.Checks.{checked}
 use Rattle.msc_state.proofs.reset_refusal.Statement.{statement}
 use Rattle.msc_state.proofs.reset_refusal.Tie as tie
@@ -37,7 +37,7 @@ unfolding resetRefusal
 returns c =
     let b = past-is-bad c in
     let a = start c .args in
-    let short = ltb (a .ring) (ringRoom (a .state .channel .description)) in
+    let short = ltb (a .ring) (ringLength (a .state .channel .description)) in
     checked 9 (badState (a .state)) (check 8 short ∷ []) (c .first2 .ensures) (b .is-bad .ensures) (checked 7 short [] (c .before .first .ensures) refl refl)
 
 pub reset-refusal-spec : {M : Type 1} → statement M

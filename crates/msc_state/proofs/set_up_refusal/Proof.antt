@@ -6,7 +6,7 @@ use mathlib.Core.List.{[], _∷_}
 use lib.Dec.{ltb}
 use Rattle.refusal.specs.Outcome.{check}
 use borrow.Author.Tests.{lt-ltb, le-ltb}
-use Rattle.msc_state.specs.States.{ringRoom, setUpRefusal}
+use Rattle.msc_state.specs.States.{ringLength, setUpRefusal}
 use Rattle.refusal.proofs.Checks.{first-nonzero}
 use Rattle.msc_state.proofs.set_up_refusal.Statement.{statement}
 use Rattle.msc_state.proofs.set_up_refusal.Tie as tie
@@ -23,7 +23,7 @@ description-refusal-requires c κs = search needs
 
 returns : tie.Need-returns
 unfolding setUpRefusal
-returns c = c .before .description-refusal .ensures ∙ first-nonzero _ (check 8 (ltb (c .before .before .args .ring) (ringRoom (c .before .before .args .d))) ∷ []) (λ z. c .if1 .taken (c .before .description-refusal .ensures ∙ z))
+returns c = c .before .description-refusal .ensures ∙ first-nonzero _ (check 8 (ltb (c .before .before .args .ring) (ringLength (c .before .before .args .d))) ∷ []) (λ z. c .if1 .taken (c .before .description-refusal .ensures ∙ z))
 
 cast-if2 : tie.Need-cast-if2
 cast-if2 c = search needs

@@ -1,9 +1,9 @@
--- `msc_handler::stretch` meets its contract.
+-- `msc_handler::own_slice` meets its contract.
 -- Assumes nothing.
 use borrow.Author.Needs.{needs}
 use Rattle.msc_handler.specs.Ring.{part}
-use Rattle.msc_handler.proofs.stretch.Statement.{statement}
-use Rattle.msc_handler.proofs.stretch.Tie as tie
+use Rattle.msc_handler.proofs.own_slice.Statement.{statement}
+use Rattle.msc_handler.proofs.own_slice.Tie as tie
 
 sub-result : tie.Need-sub-result
 sub-result c = search needs
@@ -18,5 +18,5 @@ returns : tie.Need-returns
 unfolding part
 returns c = search needs
 
-pub stretch-spec : {M : Type 1} → statement M
-stretch-spec = tie.close (tie.spec sub-result part-result-start part-result-end returns)
+pub own-slice-spec : {M : Type 1} → statement M
+own-slice-spec = tie.close (tie.spec sub-result part-result-start part-result-end returns)
