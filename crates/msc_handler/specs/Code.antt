@@ -6,7 +6,7 @@ use lib.ListN.{length}
 use lib.IntN.{ℤ}
 use Rattle.spec_en300401.specs.Interleaving.{units, cifBits}
 use Rattle.fec_protection.specs.declared.Description.{Description}
-use Rattle.fec_protection.specs.Refusals.{refusalOf, depuncturedLength}
+use Rattle.fec_protection.specs.Refusals.{Accepted, depuncturedLength}
 use Rattle.msc_state.specs.declared.Channel.{Channel}
 use Rattle.msc_handler.specs.Promises.{Buffers}
 use Rattle.msc_state.specs.States.{valuesOf, ringLength, frameLength, stepsOf}
@@ -22,7 +22,7 @@ pub record RingLent (c : Channel) (cif ring deinterleaved : List ℤ) : Type 0 w
 -- an accepted description, and all of the caller's buffers
 pub record CifLent (c : Channel) (b : Buffers) : Type 0 where
   pub index : c .«ring_index» < 16
-  pub none : refusalOf (c .description) ≡ 0
+  pub none : Accepted (c .description)
   pub cif-long : cifBits ≤ length (b .cif)
   pub ring-long : ringLength (c .description) ≤ length (b .ring)
   pub read-long : valuesOf (c .description) ≤ length (b .deinterleaved)
@@ -33,7 +33,7 @@ pub record CifLent (c : Channel) (b : Buffers) : Type 0 where
 
 -- what was read, and places for the rest
 pub record FrameLent (d : Description) (deinterleaved depunctured : List ℤ) (words bits frame : List ℕ) : Type 0 where
-  pub none : refusalOf d ≡ 0
+  pub none : Accepted d
   pub read-long : valuesOf d ≤ length deinterleaved
   pub soft-long : depuncturedLength d ≤ length depunctured
   pub words-long : stepsOf (d .bitrate) ≤ length words

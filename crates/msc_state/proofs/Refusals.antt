@@ -3,10 +3,11 @@
 use mathlib.Core.Path.{_≡_}
 use mathlib.Core.Bool.{false}
 use Prim.Native.Nat.{ℕ, _≤_}
-use borrow.Author.Tests.{ltb-false, eqb-true, not-false}
-use lib.Dec.{eqb, ltb}
+use borrow.Author.Tests.{ltb-false}
+use lib.Dec.{ltb}
 use Rattle.fec_protection.specs.declared.Description.{Description}
-use Rattle.fec_protection.specs.Refusals.{refusalOf, depuncturedLength}
+use Rattle.fec_protection.specs.Refusals.{Accepted as IsAccepted, depuncturedLength}
+use Rattle.fec_protection.proofs.Accepted.{passes-accepted}
 use Rattle.refusal.proofs.Checks.{none-of, off-at, clean, zeroed, later, held-not}
 use Rattle.msc_state.specs.declared.Lengths.{Lengths}
 use Rattle.msc_state.specs.declared.State.{State}
@@ -18,7 +19,7 @@ pub record Sound (s : State) : Type 0 where
   pub in-frame : s .«cif_in_frame» ≤ 3
   pub index : s .channel .«ring_index» ≤ 15
   pub count : s .channel .«cif_count» ≤ 17
-  pub description : refusalOf (s .channel .description) ≡ 0
+  pub description : IsAccepted (s .channel .description)
 
 pub sound : (s : State) → badState s ≡ false → Sound s
 unfolding badState
@@ -29,7 +30,7 @@ sound s e =
       in-frame = ltb-false 3 (s .«cif_in_frame») (off-at n 1);
       index = ltb-false 15 (s .channel .«ring_index») (off-at n 2);
       count = ltb-false 17 (s .channel .«cif_count») (off-at n 3);
-      description = eqb-true (refusalOf (s .channel .description)) 0 (not-false (eqb (refusalOf (s .channel .description)) 0) (off-at n 4));
+      description = passes-accepted (s .channel .description) (off-at n 4);
     }
 
 -- buffers of which none is too short

@@ -1,11 +1,11 @@
 -- Document 01, "Room" and "The numbers that turn a caller away": the state, the needed lengths, refusals 8 to 10, and the state after a call.
-use mathlib.Core.Bool.{Bool, false, cond, not}
+use mathlib.Core.Bool.{Bool, false, cond}
 use mathlib.Core.List.{List, [], _∷_}
 use Prim.Native.Nat.{ℕ, _+_, _*_, _%_, _≤_, min}
-use lib.Dec.{eqb, ltb, leb}
+use lib.Dec.{ltb, leb}
 use Rattle.spec_en300401.specs.Interleaving.{cifBits, symbolBits}
 use Rattle.fec_protection.specs.declared.Description.{Description}
-use Rattle.fec_protection.specs.Refusals.{refusalOf, depuncturedLength}
+use Rattle.fec_protection.specs.Refusals.{refusalOf, isRefused, depuncturedLength}
 use Rattle.refusal.specs.Outcome.{check, firstOf, anyOf}
 use Rattle.msc_state.specs.declared.Channel.{Channel}
 use Rattle.msc_state.specs.declared.Lengths.{Lengths}
@@ -13,7 +13,7 @@ use Rattle.msc_state.specs.declared.State.{State}
 
 -- symbols above 17, CIF in frame above 3, ring index above 15, count above 17, or a description refused by 1 to 7
 abbrev pub faults : State → List Bool
-faults s = ltb 17 (s .symbols) ∷ ltb 3 (s .«cif_in_frame») ∷ ltb 15 (s .channel .«ring_index») ∷ ltb 17 (s .channel .«cif_count») ∷ not (eqb (refusalOf (s .channel .description)) 0) ∷ []
+faults s = ltb 17 (s .symbols) ∷ ltb 3 (s .«cif_in_frame») ∷ ltb 15 (s .channel .«ring_index») ∷ ltb 17 (s .channel .«cif_count») ∷ isRefused (s .channel .description) ∷ []
 
 unfoldable pub badState : State → Bool
 badState s = anyOf (faults s)

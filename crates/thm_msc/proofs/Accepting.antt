@@ -5,12 +5,13 @@ use mathlib.Core.Bool.{false}
 use mathlib.Core.List.{List}
 use Prim.Native.Nat.{_<_, _≤_}
 use native.Mathlib.Omega.{arith}
-use borrow.Author.Tests.{le-ltb, le-leb, lt-leb, eq-eqb}
+use borrow.Author.Tests.{le-ltb, le-leb, lt-leb}
 use lib.ListN.{length}
 use lib.IntN.{ℤ}
 use Rattle.spec_en300401.specs.Interleaving.{cifBits, symbolBits}
 use Rattle.fec_protection.specs.declared.Description.{Description}
-use Rattle.fec_protection.specs.Refusals.{refusalOf, depuncturedLength}
+use Rattle.fec_protection.specs.Refusals.{depuncturedLength}
+use Rattle.fec_protection.proofs.Accepted.{accepted-passes}
 use Rattle.refusal.specs.Outcome.{gives, outcome}
 use Rattle.msc_state.specs.declared.Lengths.{Lengths}
 use Rattle.msc_state.specs.declared.State.{State}
@@ -25,7 +26,7 @@ use Rattle.thm_msc.proofs.Histories.{holds, state-sound}
 not-bad : (s : State) → Sound s → badState s ≡ false
 unfolding badState
 not-bad s h =
-    rw (le-ltb 17 (s .symbols) (h .symbols), le-ltb 3 (s .«cif_in_frame») (h .in-frame), le-ltb 15 (s .channel .«ring_index») (h .index), le-ltb 17 (s .channel .«cif_count») (h .count), eq-eqb (refusalOf (s .channel .description)) 0 (h .description))
+    rw (le-ltb 17 (s .symbols) (h .symbols), le-ltb 3 (s .«cif_in_frame») (h .in-frame), le-ltb 15 (s .channel .«ring_index») (h .index), le-ltb 17 (s .channel .«cif_count») (h .count), accepted-passes (s .channel .description) (h .description))
 
 enough : (d : Description) (l : Lengths) → LongEnough d l → tooShort d l ≡ false
 unfolding tooShort
