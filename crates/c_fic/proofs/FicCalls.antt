@@ -17,7 +17,7 @@ use Rattle.refusal.proofs.Checks.{clean, zeroed, later, held-not, same-check, n
 use Rattle.refusal.proofs.Laws.{orElse-assoc, orElse-zero, or-either, first-append, done-by, untouched-by, done-of, untouched-of}
 use Rattle.fec_quality.specs.declared.Quality.{Quality}
 use Rattle.fic_handler.specs.declared.Fic.{Fic}
-use Rattle.fic_handler.specs.Blocks.{joined, blocksIn, Lent}
+use Rattle.fic_handler.specs.Blocks.{joined, blocksIn, Buffers}
 use Rattle.fic_handler.specs.Promise.{tooLong, tooFew, processRefusal, answerOf, Outcomes, FicPromise}
 use Rattle.c_description.specs.Places.{short}
 use Rattle.c_fic.specs.Code.{fewOf, noFigures, firstFour, PutQuality, countsPut, pastEnd, PutAll, EnoughFigures, FiguresPut, FiguresTold}
@@ -68,23 +68,23 @@ enough-figures f e =
     }
 
 -- then the number is 11 where a symbol is too long, and else 8 whatever the handler's own buffers are
-no-figures-number : (a b c : List ℤ) (l : Lent) (f : Figures) → fewFigures f ≡ 8 → noFigures a b c ≡ ficNumber a b c l f
+no-figures-number : (a b c : List ℤ) (l : Buffers) (f : Figures) → fewFigures f ≡ 8 → noFigures a b c ≡ ficNumber a b c l f
 unfolding ficNumber processRefusal tooFew
 no-figures-number a b c l f e =
     let over = tooLong a ∷ tooLong b ∷ tooLong c ∷ [] in
-    let lent = tooFew (blocksIn (joined a b c)) l in
+    let ficBuffers = tooFew (blocksIn (joined a b c)) l in
     let each = same-check (ltb (length (l .depunctured)) 3096) (same-check (ltb (length (l .words)) 774) (same-check (ltb (length (l .bits)) 774) (same-check (ltb (length (l .fibs)) (96 * blocksIn (joined a b c))) no-more))) in
     sym
-    (ap (orElse (processRefusal a b c l)) e ∙ ap (λ (n : ℕ). orElse n 8) (first-append over lent) ∙ orElse-assoc (firstOf over) (firstOf lent) 8
+    (ap (orElse (processRefusal a b c l)) e ∙ ap (λ (n : ℕ). orElse n 8) (first-append over ficBuffers) ∙ orElse-assoc (firstOf over) (firstOf ficBuffers) 8
     ∙ ap (orElse (firstOf over)) (passed-by 7 each))
 
-pub fic-away : {a b c : List ℤ} {l : Lent} (f : Figures) (k : ℕ) {n : ℕ} → n ≡ fewFigures f → (n ≡ 0 → ⊥) → k ≡ noFigures a b c → FicCall a b c l f k l f
+pub fic-away : {a b c : List ℤ} {l : Buffers} (f : Figures) (k : ℕ) {n : ℕ} → n ≡ fewFigures f → (n ≡ 0 → ⊥) → k ≡ noFigures a b c → FicCall a b c l f k l f
 fic-away {a} {b} {c} {l} f k e h q =
     let m = no-figures-number a b c l f (only-eight f (λ z. h (e ∙ z))) in
     let over = firstOf (tooLong a ∷ tooLong b ∷ tooLong c ∷ []) in
     record {
       answer = q ∙ m;
-      left = untouched-by (FicWritten a b c l f l f) (FicUntouched l f l f) (ficNumber a b c l f) (λ z. or-either over 8 (λ y. absurd (omega (arith, y))) (m ∙ z)) (record { lent-is = refl; figures-are = refl });
+      left = untouched-by (FicWritten a b c l f l f) (FicUntouched l f l f) (ficNumber a b c l f) (λ z. or-either over 8 (λ y. absurd (omega (arith, y))) (m ∙ z)) (record { buffers-are = refl; figures-are = refl });
     }
 
 -- the metrics and sums of four records, each pair written together: the front four places take the metrics, the next four the sums
@@ -157,7 +157,7 @@ unfolding listFrom
 four-whole {A} xs d h e = subst (λ (ys : List A). firstFour d ys ≡ ys) (sym e) refl
 
 -- the handler's answer, told
-module _ (a b c : List ℤ) (l : Lent) (f : Figures) (enough : fewFigures f ≡ 0) (r : Fic) (after : Lent) where
+module _ (a b c : List ℤ) (l : Buffers) (f : Figures) (enough : fewFigures f ≡ 0) (r : Fic) (after : Buffers) where
   number-is : ficNumber a b c l f ≡ processRefusal a b c l
   unfolding ficNumber
   number-is = ap (orElse (processRefusal a b c l)) enough ∙ orElse-zero (processRefusal a b c l)
@@ -184,10 +184,10 @@ module _ (a b c : List ℤ) (l : Lent) (f : Figures) (enough : fewFigures f ≡ 
       let kept = untouched-of (FiguresPut r f f') (f' ≡ f) (numberOf (answerOf (r .answer))) (λ y. absurd (omega (arith, z, y))) (t .figures) in
       record {
         answer = t .answer ∙ z ∙ sym (number-is ∙ e);
-        left = untouched-by (FicWritten a b c l f after f') (FicUntouched l f after f') (ficNumber a b c l f) (λ y. absurd (omega (arith, number-is ∙ e, y))) (record { lent-is = o .1; figures-are = kept });
+        left = untouched-by (FicWritten a b c l f after f') (FicUntouched l f after f') (ficNumber a b c l f) (λ y. absurd (omega (arith, number-is ∙ e, y))) (record { buffers-are = o .1; figures-are = kept });
       }
 
-pub fic-told : {a b c : List ℤ} {l : Lent} {after : Lent} (f : Figures) → fewFigures f ≡ 0 → (r : Fic) → FicPromise a b c l r after → {k : ℕ} {f' : Figures} → FiguresTold r f f' k → FicCall a b c l f k after f'
+pub fic-told : {a b c : List ℤ} {l : Buffers} {after : Buffers} (f : Figures) → fewFigures f ≡ 0 → (r : Fic) → FicPromise a b c l r after → {k : ℕ} {f' : Figures} → FiguresTold r f f' k → FicCall a b c l f k after f'
 fic-told {a} {b} {c} {l} {after} f enough r p t = told-by a b c l f enough r after (processRefusal a b c l) refl (p .outcome) p t
 
 -- an answer, as it is written

@@ -10,7 +10,7 @@ use Rattle.fec_quality.specs.declared.Quality.{Quality}
 use Rattle.fic_handler.specs.declared.Fic.{Fic}
 use Rattle.fic_handler.specs.declared.FicAnswer.{FicAnswer}
 use Rattle.fic_handler.specs.declared.FicAnswer.the-variants.{Fibs, Refused}
-use Rattle.fic_handler.specs.Blocks.{Lent}
+use Rattle.fic_handler.specs.Blocks.{Buffers}
 use Rattle.fic_handler.specs.Promise.{processRefusal, FicPromise}
 use Rattle.c_description.specs.Places.{short}
 
@@ -28,7 +28,7 @@ abbrev pub fewFigures : Figures → ℕ
 fewFigures f = firstOf (short 5 (length (f .counts)) ∷ short 8 (length (f .metrics)) ∷ short 4 (length (f .percents)) ∷ [])
 
 -- 11, then 8; 0 for none
-unfoldable pub ficNumber : List ℤ → List ℤ → List ℤ → Lent → Figures → ℕ
+unfoldable pub ficNumber : List ℤ → List ℤ → List ℤ → Buffers → Figures → ℕ
 ficNumber s1 s2 s3 l f = orElse (processRefusal s1 s2 s3 l) (fewFigures f)
 
 -- how many FIBs
@@ -47,18 +47,18 @@ abbrev pub percentsOf : List Quality → List Float
 percentsOf qs = map (λ (q : Quality). q .percent) qs
 
 -- refused: nothing changed
-pub record FicUntouched (before : Lent) (f : Figures) (after : Lent) (f' : Figures) : Type 0 where
-  pub lent-is : after ≡ before
+pub record FicUntouched (before : Buffers) (f : Figures) (after : Buffers) (f' : Figures) : Type 0 where
+  pub buffers-are : after ≡ before
   pub figures-are : f' ≡ f
 
 -- done: as the handler promises, and the figures of its answer before the rest as it was
-pub record FicWritten (s1 s2 s3 : List ℤ) (before : Lent) (f : Figures) (after : Lent) (f' : Figures) : Type 0 where
+pub record FicWritten (s1 s2 s3 : List ℤ) (before : Buffers) (f : Figures) (after : Buffers) (f' : Figures) : Type 0 where
   pub fic : Fic
   pub processed : FicPromise s1 s2 s3 before fic after
   pub counts-are : f' .counts ≡ countsOf fic ++ drop 5 (f .counts)
   pub metrics-are : f' .metrics ≡ metricsOf (fic .quality) ++ drop 8 (f .metrics)
   pub percents-are : f' .percents ≡ percentsOf (fic .quality) ++ drop 4 (f .percents)
 
-pub record FicCall (s1 s2 s3 : List ℤ) (before : Lent) (f : Figures) (number : ℕ) (after : Lent) (f' : Figures) : Type 0 where
+pub record FicCall (s1 s2 s3 : List ℤ) (before : Buffers) (f : Figures) (number : ℕ) (after : Buffers) (f' : Figures) : Type 0 where
   pub answer : number ≡ ficNumber s1 s2 s3 before f
   pub left : unlessRefused (ficNumber s1 s2 s3 before f) (FicWritten s1 s2 s3 before f after f') (FicUntouched before f after f')

@@ -3,7 +3,7 @@ ghost use mathlib.Core.Path.{_≡_};
 ghost use Prim.Native.Nat.{_<_, _≤_};
 ghost use lib.ListN.{length};
 ghost use Rattle.refusal.specs.Outcome.{numberOf};
-ghost use Rattle.fic_handler.specs.Blocks.{lent};
+ghost use Rattle.fic_handler.specs.Blocks.{ficBuffers};
 ghost use Rattle.fic_handler.specs.Promise.{answerOf};
 ghost use Rattle.c_fic.specs.Code.{fewOf, noFigures, countsPut, PutQuality, PutAll, EnoughFigures, FiguresTold};
 ghost use Rattle.c_fic.specs.Fic.{figures, fibsIn, FicCall};
@@ -129,7 +129,7 @@ pub fn process_fic(
     metrics: &mut [i32],
     percents: &mut [f64],
 ) -> u8
-    ensures { λ r. ⌜ FicCall (now (first .entry)) (now (second .entry)) (now (third .entry)) (lent (now (depunctured .entry)) (now (words .entry)) (now (bits .entry)) (now (fibs .entry))) (figures (now (counts .entry)) (now (metrics .entry)) (now (percents .entry))) r (lent (now (depunctured .exit)) (now (words .exit)) (now (bits .exit)) (now (fibs .exit))) (figures (now (counts .exit)) (now (metrics .exit)) (now (percents .exit))) ⌝ }
+    ensures { λ r. ⌜ FicCall (now (first .entry)) (now (second .entry)) (now (third .entry)) (ficBuffers (now (depunctured .entry)) (now (words .entry)) (now (bits .entry)) (now (fibs .entry))) (figures (now (counts .entry)) (now (metrics .entry)) (now (percents .entry))) r (ficBuffers (now (depunctured .exit)) (now (words .exit)) (now (bits .exit)) (now (fibs .exit))) (figures (now (counts .exit)) (now (metrics .exit)) (now (percents .exit))) ⌝ }
 {
     if figures_refusal(counts.len(), metrics.len(), percents.len()) != 0 {
         return no_figures(first, second, third);

@@ -106,30 +106,30 @@ module _ (soft : List ℤ) (b : Buffers) (f : FedPlaces) where
   before = placesRefusal (f .state) (length (f .lengths)) (length (f .percents))
 
   -- the checks of the buffers and of the symbol
-  abbrev lent : List ℕ
-  lent = check 8 (tooShort (s .channel .description) (lengthsOf b)) ∷ check 9 (ltb (length soft) symbolBits) ∷ []
+  abbrev buffers-are : List ℕ
+  buffers-are = check 8 (tooShort (s .channel .description) (lengthsOf b)) ∷ check 9 (ltb (length soft) symbolBits) ∷ []
 
   -- all checks after those of the numbers
   abbrev rest : ℕ
-  rest = orElse (check 10 (badState s)) (firstOf (short 1 (length (f .lengths)) ∷ short 1 (length (f .percents)) ∷ lent))
+  rest = orElse (check 10 (badState s)) (firstOf (short 1 (length (f .lengths)) ∷ short 1 (length (f .percents)) ∷ buffers-are))
 
   numbers-first : numberFed soft b f ≡ orElse (stateRefusal (f .state)) rest
   unfolding feedNumber stateRefusal
-  numbers-first = first-append (stateChecks (f .state)) (check 10 (badState s) ∷ short 1 (length (f .lengths)) ∷ short 1 (length (f .percents)) ∷ lent)
+  numbers-first = first-append (stateChecks (f .state)) (check 10 (badState s) ∷ short 1 (length (f .lengths)) ∷ short 1 (length (f .percents)) ∷ buffers-are)
 
-  few-next : rest ≡ orElse (check 10 (badState s)) (orElse few (firstOf lent))
-  few-next = ap (orElse (check 10 (badState s))) (first-append (short 1 (length (f .lengths)) ∷ short 1 (length (f .percents)) ∷ []) lent)
+  few-next : rest ≡ orElse (check 10 (badState s)) (orElse few (firstOf buffers-are))
+  few-next = ap (orElse (check 10 (badState s))) (first-append (short 1 (length (f .lengths)) ∷ short 1 (length (f .percents)) ∷ []) buffers-are)
 
   -- both places are there: the handler's own refusal
   rest-none : few ≡ 0 → rest ≡ refusalIn s soft b
   unfolding feedRefusal
-  rest-none z = few-next ∙ ap (λ (n : ℕ). orElse (check 10 (badState s)) (orElse n (firstOf lent))) z
+  rest-none z = few-next ∙ ap (λ (n : ℕ). orElse (check 10 (badState s)) (orElse n (firstOf buffers-are))) z
 
   -- one is not: 8, after 10
   rest-few : (few ≡ 0 → ⊥) → rest ≡ noPlaces s
   rest-few h =
       let each = same-check (ltb (length (f .lengths)) 1) (same-check (ltb (length (f .percents)) 1) no-more) in
-      few-next ∙ ap (orElse (check 10 (badState s))) (or-given few (firstOf lent) h ∙ only 7 each h)
+      few-next ∙ ap (orElse (check 10 (badState s))) (or-given few (firstOf buffers-are) h ∙ only 7 each h)
 
   number-away : (n : ℕ) → few ≡ n → (before ≡ 0 → ⊥) → before ≡ numberFed soft b f
   unfolding placesRefusal
@@ -144,7 +144,7 @@ module _ (soft : List ℤ) (b : Buffers) (f : FedPlaces) where
   pub turned-away : (k : ℕ) → k ≡ before → (k ≡ 0 → ⊥) → FeedCall soft b f k b f
   turned-away k e h =
       let m = e ∙ number-away few refl (λ z. h (e ∙ z)) in
-      record { answer = m; left = untouched-by (FeedWritten soft b f b f) (FeedUntouched b f b f) (numberFed soft b f) (λ z. h (m ∙ z)) (record { lent-is = refl; places-are = refl }) }
+      record { answer = m; left = untouched-by (FeedWritten soft b f b f) (FeedUntouched b f b f) (numberFed soft b f) (λ z. h (m ∙ z)) (record { buffers-are = refl; places-are = refl }) }
 
   number-is : before ≡ 0 → numberFed soft b f ≡ refusalIn s soft b
   number-is none = numbers-first ∙ or-other (stateRefusal (f .state)) rest (numbers-none f none) ∙ rest-none (few-none f none)
@@ -188,7 +188,7 @@ module _ {soft : List ℤ} {b : Buffers} (f : FedPlaces) (none : placesRefusal (
       left-by (suc n) e =
           let one : numberFed soft b f ≡ 0 → ⊥ = λ y. absurd (omega (arith, e, y)) in
           record {
-            lent-is = fed-refuses (stateIn (f .state)) soft b promised (λ y. one (number-is soft b f none ∙ y)) .1;
+            buffers-are = fed-refuses (stateIn (f .state)) soft b promised (λ y. one (number-is soft b f none ∙ y)) .1;
             places-are = t .places ∙ where-refused _ (fedPut r f) f (λ y. one (sym same ∙ y));
           }
 

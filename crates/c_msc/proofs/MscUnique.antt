@@ -25,7 +25,7 @@ readied-unique x y = record { number-is = x .answer ∙ sym (y .answer); ring-is
 -- feeding
 pub record SameFeed (k : ℕ) (b : Buffers) (g : FedPlaces) (k' : ℕ) (b' : Buffers) (g' : FedPlaces) : Type 0 where
   pub number-is : k ≡ k'
-  pub lent-is : b ≡ b'
+  pub buffers-are : b ≡ b'
   pub places-are : g ≡ g'
 
 module _ {soft : List ℤ} {b : Buffers} {f : FedPlaces} {c c' : Buffers} {g g' : FedPlaces} where
@@ -44,5 +44,5 @@ module _ {soft : List ℤ} {b : Buffers} {f : FedPlaces} {c c' : Buffers} {g g' 
       go : (n : ℕ) → unlessRefused n (FeedWritten soft b f c g) (FeedUntouched b f c g) → unlessRefused n (FeedWritten soft b f c' g') (FeedUntouched b f c' g') → SameFeed k c g k' c' g'
       go zero p q =
           let same = fed-unique (p .promise) (q .promise) in
-          record { number-is = number-one; lent-is = same .lent-one; places-are = places-one p q (same .result-one) }
-      go (suc n) p q = record { number-is = number-one; lent-is = p .lent-is ∙ sym (q .lent-is); places-are = p .places-are ∙ sym (q .places-are) }
+          record { number-is = number-one; buffers-are = same .buffers-one; places-are = places-one p q (same .result-one) }
+      go (suc n) p q = record { number-is = number-one; buffers-are = p .buffers-are ∙ sym (q .buffers-are); places-are = p .places-are ∙ sym (q .places-are) }

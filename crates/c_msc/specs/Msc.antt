@@ -67,7 +67,7 @@ percentPut (Refused n) xs = xs
 
 -- refused: nothing changed
 pub record FeedUntouched (b : Buffers) (f : FedPlaces) (b' : Buffers) (f' : FedPlaces) : Type 0 where
-  pub lent-is : b' ≡ b
+  pub buffers-are : b' ≡ b
   pub places-are : f' ≡ f
 
 -- done: as the handler promises, and what it answers in its places

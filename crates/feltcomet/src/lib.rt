@@ -7,7 +7,7 @@ ghost use Rattle.spec_trellis.specs.Trellis.{zeroEnd, freeEnd};
 ghost use Rattle.fec_crc.specs.Tests.{byteTest, bitTest};
 ghost use Rattle.fec_protection.specs.Promises.{motherSize};
 ghost use Rattle.fec_protection.specs.Refusals.{refusalOf};
-ghost use Rattle.fic_handler.specs.Blocks.{lent};
+ghost use Rattle.fic_handler.specs.Blocks.{ficBuffers};
 ghost use Rattle.msc_handler.specs.Promises.{buffers};
 ghost use Rattle.c_description.specs.Lookups.{rowOf, one, Looked};
 ghost use Rattle.c_description.specs.Places.{describes};
@@ -196,7 +196,7 @@ pub extern "C" fn feltcomet_process_fic(
     metrics: &mut [i32],
     percents: &mut [f64],
 ) -> u8
-    ensures { λ r. ⌜ FicCall (now (first .entry)) (now (second .entry)) (now (third .entry)) (lent (now (depunctured .entry)) (now (words .entry)) (now (bits .entry)) (now (fibs .entry))) (figures (now (counts .entry)) (now (metrics .entry)) (now (percents .entry))) r (lent (now (depunctured .exit)) (now (words .exit)) (now (bits .exit)) (now (fibs .exit))) (figures (now (counts .exit)) (now (metrics .exit)) (now (percents .exit))) ⌝ }
+    ensures { λ r. ⌜ FicCall (now (first .entry)) (now (second .entry)) (now (third .entry)) (ficBuffers (now (depunctured .entry)) (now (words .entry)) (now (bits .entry)) (now (fibs .entry))) (figures (now (counts .entry)) (now (metrics .entry)) (now (percents .entry))) r (ficBuffers (now (depunctured .exit)) (now (words .exit)) (now (bits .exit)) (now (fibs .exit))) (figures (now (counts .exit)) (now (metrics .exit)) (now (percents .exit))) ⌝ }
 {
     c_fic::process_fic(
         first,

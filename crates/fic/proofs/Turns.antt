@@ -11,7 +11,7 @@ use Rattle.refusal.specs.Outcome.{gives}
 use Rattle.fic_handler.specs.declared.Fic.{Fic}
 use Rattle.fic_handler.specs.declared.FicAnswer.{FicAnswer}
 use Rattle.fic_handler.specs.declared.FicAnswer.the-variants.{Fibs, Refused}
-use Rattle.fic_handler.specs.Blocks.{joined, blocksIn, countOf, dataBits, Block, Lent, written, total}
+use Rattle.fic_handler.specs.Blocks.{joined, blocksIn, countOf, dataBits, Block, Buffers, written, total}
 use Rattle.fic_handler.specs.Promise.{answerOf, Processed, processRefusal, Outcomes, FicPromise}
 use Rattle.fic_handler.proofs.Fibs.{count-le}
 use Rattle.fic_handler.proofs.Refusals.{no-refusal}
@@ -42,14 +42,14 @@ unfolding total
 total-le k zero = omega arith
 total-le k (suc n) = omega (arith, total-le k n, count-le (dataBits (k n .decoded)) 3)
 
--- lent memory that has what three full symbols need
-pub record Enough (l : Lent) : Type 0 where
+-- given memory that has what three full symbols need
+pub record Enough (l : Buffers) : Type 0 where
   pub values : length (l .depunctured) ≡ 3096
   pub choices : length (l .words) ≡ 774
   pub places : length (l .bits) ≡ 774
   pub out : length (l .fibs) ≡ 384
 
-module _ (soft : List ℤ) (long : length soft ≡ 9216) (l : Lent) (enough : Enough l) {r : Fic} {after : Lent}
+module _ (soft : List ℤ) (long : length soft ≡ 9216) (l : Buffers) (enough : Enough l) {r : Fic} {after : Buffers}
     (promise : FicPromise (symbol 0 soft) (symbol 1 soft) (symbol 2 soft) l r after) where
   accepted : processRefusal (symbol 0 soft) (symbol 1 soft) (symbol 2 soft) l ≡ 0
   accepted =

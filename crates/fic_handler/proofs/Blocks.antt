@@ -1,4 +1,4 @@
--- Laws of one block: its values with the erasures put back, and its data bits at the front of the lent ones.
+-- Laws of one block: its values with the erasures put back, and its data bits at the front of the given ones.
 -- Assumes nothing.
 use mathlib.Core.Path.{_≡_, ap, _∙_, subst}
 use mathlib.Core.Bool.{Bool}
@@ -22,7 +22,7 @@ use Rattle.fec_quality.specs.declared.Quality.{Quality}
 use Rattle.fec_quality.specs.Figures.{qualityOf}
 use Rattle.fec_viterbi.specs.Result.{Decodes, ChoiceWords}
 use Rattle.fec_viterbi.proofs.Result.{decoded-length, decoded-bits}
-use Rattle.fic_handler.specs.Blocks.{dataBits, countOf, passedBytes, Lent}
+use Rattle.fic_handler.specs.Blocks.{dataBits, countOf, passedBytes, Buffers}
 use Rattle.fic_handler.specs.Code.{KeptFibs, BlockDecoded, BlockProcessed}
 
 -- a block with the erasures put back
@@ -53,7 +53,7 @@ data-front {bits = bits} b =
     ∙ take-at (dataBits (b .block .decoded)) (drop 768 (b .block .decoded) ++ drop 774 bits) 768 (data-length (b .decodes))
 
 -- depuncturing, decoding and keeping the FIBs of a block, put together
-pub block-done : (values : List ℤ) (before after : Lent) (r : Judged) (q : Quality) (k : ℕ) → 3096 ≤ length (before .depunctured) → DepuncturedFic values (before .depunctured) (after .depunctured) r
+pub block-done : (values : List ℤ) (before after : Buffers) (r : Judged) (q : Quality) (k : ℕ) → 3096 ≤ length (before .depunctured) → DepuncturedFic values (before .depunctured) (after .depunctured) r
     → (b : BlockDecoded (take 3096 (after .depunctured)) (before .words) (before .bits) q (after .words) (after .bits)) → KeptFibs (take 768 (after .bits)) 3 (before .fibs) k (after .fibs) → BlockProcessed values before k q after
 block-done values before after r q k h p b f =
     let d = depunctured-is values (before .depunctured) (after .depunctured) r h p in

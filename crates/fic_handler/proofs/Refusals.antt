@@ -8,10 +8,10 @@ use lib.IntN.{ℤ}
 use lib.ListN.{length}
 use Rattle.refusal.specs.Outcome.{outcome}
 use Rattle.fic_handler.specs.declared.Fic.{Fic}
-use Rattle.fic_handler.specs.Blocks.{joined, blocksIn, Lent, total}
+use Rattle.fic_handler.specs.Blocks.{joined, blocksIn, Buffers, total}
 use Rattle.fic_handler.specs.Promise.{tooLong, tooFew, processRefusal, Away, Outcomes, Processed, FicPromise}
 
-module _ (s1 s2 s3 : List ℤ) (l : Lent) where
+module _ (s1 s2 s3 : List ℤ) (l : Buffers) where
   pub first-long : 3072 < length s1 → processRefusal s1 s2 s3 l ≡ 11
   unfolding processRefusal tooLong
   first-long a = simp (lt-ltb _ _ a)
@@ -54,7 +54,7 @@ module _ (s1 s2 s3 : List ℤ) (l : Lent) where
         outcome = subst (λ (n : ℕ). Outcomes n (joined s1 s2 s3) l r l) (sym e) (p, refl);
       }
 
-  pub done : {r : Fic} {after : Lent} → processRefusal s1 s2 s3 l ≡ 0 → Processed (joined s1 s2 s3) (blocksIn (joined s1 s2 s3)) l r after → FicPromise s1 s2 s3 l r after
+  pub done : {r : Fic} {after : Buffers} → processRefusal s1 s2 s3 l ≡ 0 → Processed (joined s1 s2 s3) (blocksIn (joined s1 s2 s3)) l r after → FicPromise s1 s2 s3 l r after
   unfolding Outcomes
   done {r} {after} e p =
       let fibs : ℕ = total (p .block) (blocksIn (joined s1 s2 s3)) in

@@ -18,7 +18,7 @@ use Rattle.laws.proofs.Lists.{length-listOf, listOf-at}
 use Rattle.fec_quality.specs.declared.Quality.{Quality}
 use Rattle.fec_quality.specs.Figures.{qualityOf, nothing}
 use Rattle.fec_viterbi.proofs.Result.{decoded-length}
-use Rattle.fic_handler.specs.Blocks.{blockOf, depuncturedBlock, dataBits, countOf, passedBytes, Block, IsBlock, Lent, lent, written, total}
+use Rattle.fic_handler.specs.Blocks.{blockOf, depuncturedBlock, dataBits, countOf, passedBytes, Block, IsBlock, Buffers, ficBuffers, written, total}
 use Rattle.fic_handler.specs.Code.{BlockProcessed}
 use Rattle.fic_handler.specs.Promise.{four, workAfter}
 use Rattle.fic_handler.proofs.Fibs.{count-le, passed-length}
@@ -85,7 +85,7 @@ written-length k (suc n) each =
     ∙ omega (arith, written-length k n (λ b l. each b (omega arith)), passed-length (dataBits (k n .decoded)) 3 (data-length (each n (omega arith) .decodes)) (omega arith))
 
 -- what the run has done after n blocks
-pub record Run (xs : List ℤ) (before : Lent) (n sum : ℕ) (counts : List ℕ) (qualities : List Quality) (after : Lent) : Type 0 where
+pub record Run (xs : List ℤ) (before : Buffers) (n sum : ℕ) (counts : List ℕ) (qualities : List Quality) (after : Buffers) : Type 0 where
   pub block : ℕ → Block
   pub each : (b : ℕ) → b < n → IsBlock xs b (block b)
   pub sum-is : sum ≡ total block n
@@ -97,7 +97,7 @@ pub record Run (xs : List ℤ) (before : Lent) (n sum : ℕ) (counts : List ℕ)
   pub bits-are : after .bits ≡ workAfter xs block n before .bits
   pub fibs-are : after .fibs ≡ written block n ++ drop (32 * sum) (before .fibs)
 
-pub run-none : (xs : List ℤ) (before : Lent) (counts : List ℕ) (qualities : List Quality) → counts ≡ four 0 (λ (b : ℕ). 0) 0 → qualities ≡ four 0 (λ (b : ℕ). nothing) nothing → Run xs before 0 0 counts qualities before
+pub run-none : (xs : List ℤ) (before : Buffers) (counts : List ℕ) (qualities : List Quality) → counts ≡ four 0 (λ (b : ℕ). 0) 0 → qualities ≡ four 0 (λ (b : ℕ). nothing) nothing → Run xs before 0 0 counts qualities before
 unfolding total written workAfter listFrom
 run-none xs before counts qualities c q =
     record {
@@ -114,12 +114,12 @@ run-none xs before counts qualities c q =
     }
 
 -- what lies behind a block's own values, choices and bits is as it was before the first
-rest-depunctured : (xs : List ℤ) (k : ℕ → Block) (n : ℕ) (before : Lent) → drop 3096 (workAfter xs k n before .depunctured) ≡ drop 3096 (before .depunctured)
+rest-depunctured : (xs : List ℤ) (k : ℕ → Block) (n : ℕ) (before : Buffers) → drop 3096 (workAfter xs k n before .depunctured) ≡ drop 3096 (before .depunctured)
 unfolding workAfter depuncturedBlock
 rest-depunctured xs k zero before = refl
 rest-depunctured xs k (suc n) before = drop-at (depuncturedBlock xs n) (drop 3096 (before .depunctured)) 3096 (restored-length (blockOf xs n))
 
-rest-words : (xs : List ℤ) (k : ℕ → Block) (n : ℕ) (before : Lent) → ((b : ℕ) → b < n → IsBlock xs b (k b)) → drop 774 (workAfter xs k n before .words) ≡ drop 774 (before .words)
+rest-words : (xs : List ℤ) (k : ℕ → Block) (n : ℕ) (before : Buffers) → ((b : ℕ) → b < n → IsBlock xs b (k b)) → drop 774 (workAfter xs k n before .words) ≡ drop 774 (before .words)
 unfolding workAfter
 rest-words xs k zero before e = refl
 rest-words xs k (suc n) before e = drop-at (k n .choices) (drop 774 (before .words)) 774 (e n (omega arith) .chosen .long)
@@ -128,19 +128,19 @@ bits-length : {xs : List ℤ} {b : ℕ} {k : Block} → IsBlock xs b k → lengt
 bits-length {k = k} e =
     length-append (dataBits (k .decoded)) (drop 768 (k .decoded)) ∙ omega (arith, data-length (e .decodes), length-drop 768 (k .decoded), decoded-length (e .decodes))
 
-rest-bits : (xs : List ℤ) (k : ℕ → Block) (n : ℕ) (before : Lent) → ((b : ℕ) → b < n → IsBlock xs b (k b)) → drop 774 (workAfter xs k n before .bits) ≡ drop 774 (before .bits)
+rest-bits : (xs : List ℤ) (k : ℕ → Block) (n : ℕ) (before : Buffers) → ((b : ℕ) → b < n → IsBlock xs b (k b)) → drop 774 (workAfter xs k n before .bits) ≡ drop 774 (before .bits)
 unfolding workAfter
 rest-bits xs k zero before e = refl
 rest-bits xs k (suc n) before e = drop-at (dataBits (k n .decoded) ++ drop 768 (k n .decoded)) (drop 774 (before .bits)) 774 (bits-length (e n (omega arith)))
 
 -- the caller's buffers after a block that wrote its FIBs from byte 32 sum on
-abbrev pub behind : Lent → ℕ → Lent
-behind l sum = lent (l .depunctured) (l .words) (l .bits) (drop (32 * sum) (l .fibs))
+abbrev pub behind : Buffers → ℕ → Buffers
+behind l sum = ficBuffers (l .depunctured) (l .words) (l .bits) (drop (32 * sum) (l .fibs))
 
-abbrev pub before-and : Lent → ℕ → Lent → Lent
-before-and old sum new = lent (new .depunctured) (new .words) (new .bits) (take (32 * sum) (old .fibs) ++ new .fibs)
+abbrev pub before-and : Buffers → ℕ → Buffers → Buffers
+before-and old sum new = ficBuffers (new .depunctured) (new .words) (new .bits) (take (32 * sum) (old .fibs) ++ new .fibs)
 
-module _ (xs : List ℤ) (before : Lent) (n sum count : ℕ) (counts : List ℕ) (qualities : List Quality) (after new : Lent) (q : Quality) (h : n < 4)
+module _ (xs : List ℤ) (before : Buffers) (n sum count : ℕ) (counts : List ℕ) (qualities : List Quality) (after new : Buffers) (q : Quality) (h : n < 4)
     (r : Run xs before n sum counts qualities after) (p : BlockProcessed (blockOf xs n) (behind after sum) count q new) where
   blocks : ℕ → Block
   blocks = with-block (r .block) n (p .block)

@@ -16,7 +16,7 @@ use Rattle.fec_viterbi.proofs.Result.{bits-one, metric-one, words-one}
 use Rattle.fic_handler.specs.declared.Fic.{Fic}
 use Rattle.fic_handler.specs.declared.FicAnswer.{FicAnswer}
 use Rattle.fic_handler.specs.declared.FicAnswer.the-variants.{Fibs, Refused}
-use Rattle.fic_handler.specs.Blocks.{joined, depuncturedBlock, dataBits, countOf, Block, IsBlock, Lent, lent, total}
+use Rattle.fic_handler.specs.Blocks.{joined, depuncturedBlock, dataBits, countOf, Block, IsBlock, Buffers, ficBuffers, total}
 use Rattle.fic_handler.specs.Promise.{answerOf, four, workAfter, processRefusal, Processed, Outcomes}
 use Rattle.fic_handler.specs.Theorems.{SameFic, FicUnique}
 use Rattle.fic_handler.proofs.Run.{total-ext, written-ext}
@@ -47,24 +47,24 @@ four-ext {A} n f g absent h = λ i. same 0 i ∷ same 1 i ∷ same 2 i ∷ same 
     same : (b : ℕ) → cond (ltb b n) (f b) absent ≡ cond (ltb b n) (g b) absent
     same b = go b (ltb b n) refl
 
-work-ext : (xs : List ℤ) (k l : ℕ → Block) (n : ℕ) (before : Lent) → ((b : ℕ) → b < n → k b ≡ l b) → workAfter xs k n before ≡ workAfter xs l n before
+work-ext : (xs : List ℤ) (k l : ℕ → Block) (n : ℕ) (before : Buffers) → ((b : ℕ) → b < n → k b ≡ l b) → workAfter xs k n before ≡ workAfter xs l n before
 unfolding workAfter
 work-ext xs k l zero before h = refl
 work-ext xs k l (suc n) before h =
     ap
-    (λ (x : Block). lent (depuncturedBlock xs n ++ drop 3096 (before .depunctured)) (x .choices ++ drop 774 (before .words)) ((dataBits (x .decoded) ++ drop 768 (x .decoded)) ++ drop 774 (before .bits)) (before .fibs))
+    (λ (x : Block). ficBuffers (depuncturedBlock xs n ++ drop 3096 (before .depunctured)) (x .choices ++ drop 774 (before .words)) ((dataBits (x .decoded) ++ drop 768 (x .decoded)) ++ drop 774 (before .bits)) (before .fibs))
     (h n (omega arith))
 
-processed-one : {xs : List ℤ} {n : ℕ} {before : Lent} {r s : Fic} {after also : Lent} → Processed xs n before r after → Processed xs n before s also → SameFic r after s also
+processed-one : {xs : List ℤ} {n : ℕ} {before : Buffers} {r s : Fic} {after also : Buffers} → Processed xs n before r after → Processed xs n before s also → SameFic r after s also
 processed-one {xs} {n} {before} {r} {s} {after} {also} f g =
     record {
       answer-is =
           fic-one r s (answer-one (r .answer) (s .answer) (f .answer ∙ ap gives sums ∙ sym (g .answer)))
           (f .passed ∙ four-ext n _ _ 0 (λ b h. ap (λ (k : Block). countOf (dataBits (k .decoded)) 3) (blocks b h)) ∙ sym (g .passed))
           (f .quality ∙ four-ext n _ _ nothing (λ b h. ap (λ (k : Block). qualityOf (k .metric) (depuncturedBlock xs b)) (blocks b h)) ∙ sym (g .quality));
-      lent-is =
-          λ i. lent ((f .depunctured ∙ ap (λ (l : Lent). l .depunctured) works ∙ sym (g .depunctured)) i) ((f .words ∙ ap (λ (l : Lent). l .words) works ∙ sym (g .words)) i)
-          ((f .bits ∙ ap (λ (l : Lent). l .bits) works ∙ sym (g .bits)) i)
+      buffers-are =
+          λ i. ficBuffers ((f .depunctured ∙ ap (λ (l : Buffers). l .depunctured) works ∙ sym (g .depunctured)) i) ((f .words ∙ ap (λ (l : Buffers). l .words) works ∙ sym (g .words)) i)
+          ((f .bits ∙ ap (λ (l : Buffers). l .bits) works ∙ sym (g .bits)) i)
           ((f .fibs ∙ ap₂ (λ (w : List ℕ) (m : ℕ). w ++ drop (32 * m) (before .fibs)) (written-ext (f .block) (g .block) n blocks) sums ∙ sym (g .fibs)) i);
     }
   where
@@ -77,13 +77,13 @@ processed-one {xs} {n} {before} {r} {s} {after} {also} f g =
     works : workAfter xs (f .block) n before ≡ workAfter xs (g .block) n before
     works = work-ext xs (f .block) (g .block) n before blocks
 
-outcomes-one : (k : ℕ) (xs : List ℤ) (before : Lent) (r s : Fic) (after also : Lent) → Outcomes k xs before r after → Outcomes k xs before s also → SameFic r after s also
+outcomes-one : (k : ℕ) (xs : List ℤ) (before : Buffers) (r s : Fic) (after also : Buffers) → Outcomes k xs before r after → Outcomes k xs before s also → SameFic r after s also
 unfolding Outcomes
 outcomes-one zero xs before r s after also f g = processed-one f g
 outcomes-one (suc k) xs before r s after also f g =
     record {
       answer-is = fic-one r s (answer-one (r .answer) (s .answer) (f .0 .answer ∙ sym (g .0 .answer))) (f .0 .passed ∙ sym (g .0 .passed)) (f .0 .quality ∙ sym (g .0 .quality));
-      lent-is = f .1 ∙ sym (g .1);
+      buffers-are = f .1 ∙ sym (g .1);
     }
 
 -- for every input the promise allows one result

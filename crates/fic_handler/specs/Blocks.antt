@@ -67,11 +67,11 @@ total k zero = 0
 total k (suc n) = total k n + countOf (dataBits (k n .decoded)) 3
 
 -- the caller's buffers
-pub record Lent : Type 0 where
+pub record Buffers : Type 0 where
   pub depunctured : List ℤ
   pub words : List ℕ
   pub bits : List ℕ
   pub fibs : List ℕ
 
-abbrev pub lent : List ℤ → List ℕ → List ℕ → List ℕ → Lent
-lent d w b f = record { depunctured = d; words = w; bits = b; fibs = f }
+abbrev pub ficBuffers : List ℤ → List ℕ → List ℕ → List ℕ → Buffers
+ficBuffers d w b f = record { depunctured = d; words = w; bits = b; fibs = f }

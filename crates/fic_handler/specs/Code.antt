@@ -13,7 +13,7 @@ use Rattle.spec_trellis.specs.Trellis.{zeroEnd}
 use Rattle.fec_quality.specs.declared.Quality.{Quality}
 use Rattle.fec_quality.specs.Figures.{qualityOf}
 use Rattle.fec_viterbi.specs.Result.{Decodes, ChoiceWords}
-use Rattle.fic_handler.specs.Blocks.{dataBits, passedBytes, countOf, Block, Lent}
+use Rattle.fic_handler.specs.Blocks.{dataBits, passedBytes, countOf, Block, Buffers}
 
 -- a FIB's bits, tested: packed into the start of the output if it passed, and else nothing
 pub record KeptFib (bits before : List ℕ) (kept : ℕ) (after : List ℕ) : Type 0 where
@@ -43,7 +43,7 @@ pub record BlockFits (block depunctured words bits fibs : ℕ) : Type 0 where
   pub out : 96 ≤ fibs
 
 -- one block of 2,304 values: how many FIBs passed, its quality, and what it leaves in the caller's buffers
-pub record BlockProcessed (values : List ℤ) (before : Lent) (count : ℕ) (q : Quality) (after : Lent) : Type 0 where
+pub record BlockProcessed (values : List ℤ) (before : Buffers) (count : ℕ) (q : Quality) (after : Buffers) : Type 0 where
   pub block : Block
   pub decodes : Decodes zeroEnd (depuncture (mask ficProfile) values) 774 (block .decoded) (block .metric)
   pub chosen : ChoiceWords (depuncture (mask ficProfile) values) 774 (block .choices)
@@ -55,7 +55,7 @@ pub record BlockProcessed (values : List ℤ) (before : Lent) (count : ℕ) (q :
   pub fibs-are : after .fibs ≡ passedBytes (dataBits (block .decoded)) 3 ++ drop (32 * count) (before .fibs)
 
 -- n blocks are there, and the buffers are long enough for them
-pub record BlocksFit (n : ℕ) (xs : List ℤ) (l : Lent) : Type 0 where
+pub record BlocksFit (n : ℕ) (xs : List ℤ) (l : Buffers) : Type 0 where
   pub few : n ≤ 4
   pub whole : 2304 * n ≤ length xs
   pub values : 3096 ≤ length (l .depunctured)

@@ -12,19 +12,19 @@ use Rattle.fec_quality.specs.Figures.{qualityOf, nothing}
 use Rattle.fic_handler.specs.declared.FicAnswer.{FicAnswer}
 use Rattle.fic_handler.specs.declared.FicAnswer.the-variants.{Fibs, Refused}
 use Rattle.fic_handler.specs.declared.Fic.{Fic}
-use Rattle.fic_handler.specs.Blocks.{joined, blocksIn, depuncturedBlock, dataBits, countOf, Block, IsBlock, Lent, written, total}
+use Rattle.fic_handler.specs.Blocks.{joined, blocksIn, depuncturedBlock, dataBits, countOf, Block, IsBlock, Buffers, written, total}
 
 -- 11: a symbol over 3,072 values
 unfoldable pub tooLong : List ℤ → ℕ
 tooLong s = check 11 (ltb 3072 (length s))
 
 -- 8: a buffer shorter than its needed length: 3,096 values, 774 words, 774 bits, and 96 bytes for each whole block
-unfoldable pub tooFew : ℕ → Lent → List ℕ
+unfoldable pub tooFew : ℕ → Buffers → List ℕ
 tooFew blocks l =
     check 8 (ltb (length (l .depunctured)) 3096) ∷ check 8 (ltb (length (l .words)) 774) ∷ check 8 (ltb (length (l .bits)) 774) ∷ check 8 (ltb (length (l .fibs)) (96 * blocks)) ∷ []
 
 -- the first refusal of a call, 11 before 8; 0 for none
-unfoldable pub processRefusal : List ℤ → List ℤ → List ℤ → Lent → ℕ
+unfoldable pub processRefusal : List ℤ → List ℤ → List ℤ → Buffers → ℕ
 processRefusal s1 s2 s3 l = firstOf (tooLong s1 ∷ tooLong s2 ∷ tooLong s3 ∷ tooFew (blocksIn (joined s1 s2 s3)) l)
 
 -- how many FIBs, or the number
@@ -38,7 +38,7 @@ module _ {ℓ} {A : Type ℓ} where
   four n f absent = listOf 4 (λ (b : ℕ). cond (ltb b n) (f b) absent)
 
 -- the work buffers after n blocks: the last block's values, choices and bits, each before the rest as it was; as they were after none
-unfoldable pub workAfter : List ℤ → (ℕ → Block) → ℕ → Lent → Lent
+unfoldable pub workAfter : List ℤ → (ℕ → Block) → ℕ → Buffers → Buffers
 workAfter xs k zero l = l
 workAfter xs k (suc n) l =
     record {
@@ -49,7 +49,7 @@ workAfter xs k (suc n) l =
     }
 
 -- the outcome of n whole blocks
-pub record Processed (xs : List ℤ) (n : ℕ) (before : Lent) (r : Fic) (after : Lent) : Type 0 where
+pub record Processed (xs : List ℤ) (n : ℕ) (before : Buffers) (r : Fic) (after : Buffers) : Type 0 where
   pub block : ℕ → Block
   pub each : (b : ℕ) → b < n → IsBlock xs b (block b)
   pub answer : answerOf (r .answer) ≡ gives (total block n)
@@ -67,11 +67,11 @@ pub record Away (number : ℕ) (r : Fic) : Type 0 where
   pub quality : r .quality ≡ nothing ∷ nothing ∷ nothing ∷ nothing ∷ []
 
 -- by the number of the first refusal: the whole blocks are processed, or nothing is changed
-unfoldable pub Outcomes : ℕ → List ℤ → Lent → Fic → Lent → Type 0
+unfoldable pub Outcomes : ℕ → List ℤ → Buffers → Fic → Buffers → Type 0
 Outcomes n xs before r after = unlessRefused n (Processed xs (blocksIn xs) before r after) (Away n r × (after ≡ before))
 
 -- the promise of `process_fic`: how many FIBs, or the first refusal; and what is written
-pub record FicPromise (s1 s2 s3 : List ℤ) (before : Lent) (r : Fic) (after : Lent) : Type 0 where
+pub record FicPromise (s1 s2 s3 : List ℤ) (before : Buffers) (r : Fic) (after : Buffers) : Type 0 where
   pub fibs : ℕ
   pub answer : answerOf (r .answer) ≡ outcomeBy (processRefusal s1 s2 s3 before) fibs
   pub outcome : Outcomes (processRefusal s1 s2 s3 before) (joined s1 s2 s3) before r after

@@ -7,7 +7,7 @@ ghost use Rattle.laws.specs.Bits.{AreBits};
 ghost use Rattle.laws.specs.Integers.{at};
 ghost use Rattle.spec_en300401.specs.Bytes.{bytesOfBits};
 ghost use Rattle.fec_viterbi.specs.Decoders.{metricOf};
-ghost use Rattle.fic_handler.specs.Blocks.{joined, lent};
+ghost use Rattle.fic_handler.specs.Blocks.{joined, ficBuffers};
 ghost use Rattle.fic_handler.specs.Code.{KeptFib, KeptFibs, BlockDecoded, BlockFits, BlockProcessed, BlocksFit};
 ghost use Rattle.fic_handler.specs.Promise.{Processed, Away, FicPromise};
 ghost use Rattle.fec_quality.specs.Figures.{qualityOf};
@@ -156,10 +156,10 @@ fn process_block(
     requires { ⌜ BlockFits (length (now block)) (length (now depunctured)) (length (now words)) (length (now bits)) (length (now fibs)) ⌝ }
     ensures { λ r. ⌜ BlockProcessed
         (now (block .entry))
-        (lent (now (depunctured .entry)) (now (words .entry)) (now (bits .entry)) (now (fibs .entry)))
+        (ficBuffers (now (depunctured .entry)) (now (words .entry)) (now (bits .entry)) (now (fibs .entry)))
         (r .passed)
         (r .quality)
-        (lent (now (depunctured .exit)) (now (words .exit)) (now (bits .exit)) (now (fibs .exit))) ⌝ }
+        (ficBuffers (now (depunctured .exit)) (now (words .exit)) (now (bits .exit)) (now (fibs .exit))) ⌝ }
 {
     fec_depuncturing::depuncture_fic(block, &mut *depunctured);
     let quality = decode_block(&depunctured[0..3096], &mut *words, &mut *bits);
@@ -178,13 +178,13 @@ fn process_blocks(
     bits: &mut [u8],
     fibs: &mut [u8],
 ) -> Fic
-    requires { ⌜ BlocksFit n (joined (now first) (now second) (now third)) (lent (now depunctured) (now words) (now bits) (now fibs)) ⌝ }
+    requires { ⌜ BlocksFit n (joined (now first) (now second) (now third)) (ficBuffers (now depunctured) (now words) (now bits) (now fibs)) ⌝ }
     ensures { λ r. ⌜ Processed
         (joined (now (first .entry)) (now (second .entry)) (now (third .entry)))
         n
-        (lent (now (depunctured .entry)) (now (words .entry)) (now (bits .entry)) (now (fibs .entry)))
+        (ficBuffers (now (depunctured .entry)) (now (words .entry)) (now (bits .entry)) (now (fibs .entry)))
         r
-        (lent (now (depunctured .exit)) (now (words .exit)) (now (bits .exit)) (now (fibs .exit))) ⌝ }
+        (ficBuffers (now (depunctured .exit)) (now (words .exit)) (now (bits .exit)) (now (fibs .exit))) ⌝ }
 {
     let absent = fec_quality::none();
     let mut passed = [0usize; 4];
@@ -240,9 +240,9 @@ pub fn process_fic(
         (now (first .entry))
         (now (second .entry))
         (now (third .entry))
-        (lent (now (depunctured .entry)) (now (words .entry)) (now (bits .entry)) (now (fibs .entry)))
+        (ficBuffers (now (depunctured .entry)) (now (words .entry)) (now (bits .entry)) (now (fibs .entry)))
         r
-        (lent (now (depunctured .exit)) (now (words .exit)) (now (bits .exit)) (now (fibs .exit))) ⌝ }
+        (ficBuffers (now (depunctured .exit)) (now (words .exit)) (now (bits .exit)) (now (fibs .exit))) ⌝ }
 {
     if SYMBOL < first.len() {
         return turned_away(11);

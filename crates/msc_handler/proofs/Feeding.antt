@@ -65,7 +65,7 @@ module _ (c : Channel) (b : Buffers) where
           frame' = frame';
           framing = subst (λ (v : List ℤ). Framed (endsOf (c .description .«is_eep»)) (c .description .bitrate) v (b .words) (b .bits) (b .frame) p words' bits' frame') same f;
           answer = refl;
-          lent = λ i. buffers (b .cif) (filled i) (read i) (dep-is i) words' bits' frame';
+          buffers-are = λ i. buffers (b .cif) (filled i) (read i) (dep-is i) words' bits' frame';
         })
 
 -- a call, from what the code leaves
@@ -113,7 +113,7 @@ pub record Finished (s : State) (soft : List ℤ) (b : Buffers) (s' : State) (b'
 completed-stores : (d : Bool) (c : Channel) (b : Buffers) (said : Said) (b' : Buffers) → Completed d c b said b' → (b' .cif ≡ b .cif) × (b' .ring ≡ rotated c b .ring) × (b' .deinterleaved ≡ rotated c b .deinterleaved)
 unfolding Completed
 completed-stores false c b said b' x = (ap (λ (q : Buffers). q .cif) (x .1), ap (λ (q : Buffers). q .ring) (x .1), ap (λ (q : Buffers). q .deinterleaved) (x .1))
-completed-stores true c b said b' x = (ap (λ (q : Buffers). q .cif) (x .lent), ap (λ (q : Buffers). q .ring) (x .lent), ap (λ (q : Buffers). q .deinterleaved) (x .lent))
+completed-stores true c b said b' x = (ap (λ (q : Buffers). q .cif) (x .buffers-are), ap (λ (q : Buffers). q .ring) (x .buffers-are), ap (λ (q : Buffers). q .deinterleaved) (x .buffers-are))
 
 completed-number : (d : Bool) (c : Channel) (b : Buffers) (said : Said) (b' : Buffers) → Completed d c b said b' → numberOf said ≡ 0
 unfolding Completed
@@ -172,10 +172,10 @@ said-unique (Refused m) (Refused n) e = let x : m ≡ n = cc in ap Refused x
 -- one result
 pub record SameFed (r r₂ : Fed) (b b₂ : Buffers) : Type 0 where
   pub result-one : r ≡ r₂
-  pub lent-one : b ≡ b₂
+  pub buffers-one : b ≡ b₂
 
 same : {r r₂ : Fed} {b b₂ : Buffers} → r .state ≡ r₂ .state → saidOf (r .answer) ≡ saidOf (r₂ .answer) → b ≡ b₂ → SameFed r r₂ b b₂
-same {r} {r₂} e f g = record { result-one = ap₂ (λ (s : State) (a : Answer). record { state = s; answer = a }) e (said-unique (r .answer) (r₂ .answer) f); lent-one = g }
+same {r} {r₂} e f g = record { result-one = ap₂ (λ (s : State) (a : Answer). record { state = s; answer = a }) e (said-unique (r .answer) (r₂ .answer) f); buffers-one = g }
 
 -- a whole CIF has one answer and leaves one state of the buffers
 pub record SameCif (said said₂ : Said) (b b₂ : Buffers) : Type 0 where
@@ -190,7 +190,7 @@ completed-unique true c b x y =
     let rest : List ℤ = depuncturedOf c (b .ring) ++ drop (depuncturedLength (c .description)) (b .depunctured) in
     record {
       said-one = x .answer ∙ ap (λ (p : Float). gives (framed (3 * c .description .bitrate) p)) (u .percent-one) ∙ sym (y .answer);
-      left-one = x .lent ∙ (λ i. buffers (rotated c b .cif) (rotated c b .ring) (rotated c b .deinterleaved) rest (u .words-one i) (u .bits-one i) (u .frame-one i)) ∙ sym (y .lent);
+      left-one = x .buffers-are ∙ (λ i. buffers (rotated c b .cif) (rotated c b .ring) (rotated c b .deinterleaved) rest (u .words-one i) (u .bits-one i) (u .frame-one i)) ∙ sym (y .buffers-are);
     }
 
 turn-unique : (t : Turn) (s : State) (soft : List ℤ) (b : Buffers) {r r₂ : Fed} {b' b₂ : Buffers} → Feeds t s soft b (r .state) (saidOf (r .answer)) b' → Feeds t s soft b (r₂ .state) (saidOf (r₂ .answer)) b₂ → SameFed r r₂ b' b₂

@@ -39,8 +39,8 @@ taken-at soft j l = getD-take symbolBits soft j (pos 0) l
 
 module _ {wholes : ℕ} {begun : Cif} {symbols inFrame : ℕ} {cif : List ℤ} (v : BoardHolds wholes begun symbols inFrame cif) where
   -- no value of the CIF store beyond a CIF's counts
-  pub board-lent : {cif₂ : List ℤ} → ((p : ℕ) → p < cifBits → at cif₂ p ≡ at cif p) → BoardHolds wholes begun symbols inFrame cif₂
-  board-lent e = record { short = v .short; counted = v .counted; in-frame = v .in-frame; stored = λ p l. e p (omega (arith, v .short)) ∙ v .stored p l }
+  pub board-elsewhere : {cif₂ : List ℤ} → ((p : ℕ) → p < cifBits → at cif₂ p ≡ at cif p) → BoardHolds wholes begun symbols inFrame cif₂
+  board-elsewhere e = record { short = v .short; counted = v .counted; in-frame = v .in-frame; stored = λ p l. e p (omega (arith, v .short)) ∙ v .stored p l }
 
   module _ (soft : List ℤ) (needed : cifBits ≤ length cif) (long : symbolBits ≤ length soft) where
     abbrev with-it : Cif
@@ -130,8 +130,8 @@ frames-next w count frames e f = go (decLt count 16)
 
 module _ {d : Description} {cifs : List Cif} {c : Channel} {ring : List ℤ} (v : ChannelHolds d cifs c ring) where
   -- no value of the ring beyond its needed length counts
-  pub channel-lent : {ring₂ : List ℤ} → ((p : ℕ) → p < ringLength d → at ring₂ p ≡ at ring p) → ChannelHolds d cifs c ring₂
-  channel-lent {ring₂} e =
+  pub channel-elsewhere : {ring₂ : List ℤ} → ((p : ℕ) → p < ringLength d → at ring₂ p ≡ at ring p) → ChannelHolds d cifs c ring₂
+  channel-elsewhere {ring₂} e =
       record {
         description = v .description;
         index = v .index;

@@ -9,7 +9,7 @@ use Rattle.refusal.specs.Outcome.{gives}
 use Rattle.spec_trellis.specs.Clean.{Agrees}
 use Rattle.spec_sender.specs.Fic.{Data, fibsOf, blockSent}
 use Rattle.fic_handler.specs.declared.Fic.{Fic}
-use Rattle.fic_handler.specs.Blocks.{joined, blocksIn, Lent}
+use Rattle.fic_handler.specs.Blocks.{joined, blocksIn, Buffers}
 use Rattle.fic_handler.specs.Promise.{answerOf, FicPromise}
 
 -- a call of `process_fic` on three symbols that was not refused
@@ -17,9 +17,9 @@ pub record TakenCall : Type 0 where
   pub s1 : List ℤ
   pub s2 : List ℤ
   pub s3 : List ℤ
-  pub before : Lent
+  pub before : Buffers
   pub result : Fic
-  pub after : Lent
+  pub after : Buffers
   pub promise : FicPromise s1 s2 s3 before result after
   pub count : ℕ
   pub answer : answerOf (result .answer) ≡ gives count
@@ -39,17 +39,17 @@ passedBefore counts zero = 0
 passedBefore counts (suc b) = passedBefore counts b + getD counts b 0
 
 -- block b's three FIBs come out: three are counted, and their bytes stand after those of the FIBs that passed before them
-pub record ComeOut (f : Data) (b : ℕ) (r : Fic) (after : Lent) : Type 0 where
+pub record ComeOut (f : Data) (b : ℕ) (r : Fic) (after : Buffers) : Type 0 where
   pub three : getD (r .passed) b 0 ≡ 3
   pub bytes : take 96 (drop (32 * passedBefore (r .passed) b) (after .fibs)) ≡ fibsOf f
 
 -- all of n blocks: three FIBs each, and their bytes in order
-pub record AllComeOut (fs : ℕ → Data) (n : ℕ) (r : Fic) (after : Lent) : Type 0 where
+pub record AllComeOut (fs : ℕ → Data) (n : ℕ) (r : Fic) (after : Buffers) : Type 0 where
   pub answer : answerOf (r .answer) ≡ gives (3 * n)
   pub bytes : (b : ℕ) → b < n → take 96 (drop (96 * b) (after .fibs)) ≡ fibsOf (fs b)
 
 -- the caller's buffers have what four blocks need
-pub record LongEnough (l : Lent) : Type 0 where
+pub record LongEnough (l : Buffers) : Type 0 where
   pub values : 3096 ≤ length (l .depunctured)
   pub words : 774 ≤ length (l .words)
   pub bits : 774 ≤ length (l .bits)

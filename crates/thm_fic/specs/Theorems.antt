@@ -7,7 +7,7 @@ use Rattle.laws.specs.Integers.{at}
 use Rattle.spec_trellis.specs.Clean.{Agrees}
 use Rattle.spec_sender.specs.Fic.{Data, blockSent}
 use Rattle.fic_handler.specs.declared.Fic.{Fic}
-use Rattle.fic_handler.specs.Blocks.{joined, blocksIn, Lent}
+use Rattle.fic_handler.specs.Blocks.{joined, blocksIn, Buffers}
 use Rattle.fic_handler.specs.Promise.{FicPromise}
 use Rattle.thm_fic.specs.Heard.{TakenCall, valuesOf, Heard, ComeOut, AllComeOut, LongEnough, FullSymbols}
 
@@ -25,5 +25,5 @@ CleanBlocksComeOut =
 -- twelve FIBs that were sent
 abbrev pub WholeFicComesOut : Type 0
 WholeFicComesOut =
-    (s1 s2 s3 : List ℤ) → FullSymbols s1 s2 s3 → (before : Lent) → LongEnough before → (r : Fic) (after : Lent) → FicPromise s1 s2 s3 before r after
+    (s1 s2 s3 : List ℤ) → FullSymbols s1 s2 s3 → (before : Buffers) → LongEnough before → (r : Fic) (after : Buffers) → FicPromise s1 s2 s3 before r after
     → (fs : ℕ → Data) → ((b i : ℕ) → b < 4 → i < 2304 → Agrees (at (joined s1 s2 s3) (2304 * b + i)) (getD (blockSent (fs b)) i 0)) → AllComeOut fs 4 r after

@@ -109,7 +109,7 @@ as-crates {d} {c = c} (refused {h} x (reset-refused n ring state ring' state' fr
     subst (λ (k : Held). History d k c) (λ t. held (sym (numbers-read numbers (state-by p)) t) (h .cif) (leftIn (sym (ring-by p) t) (h .ring))) (ring-swapped (as-crates x) ring front)
 as-crates {d} {c = c} (refused {h} x (feed-refused n soft b f b' f' front-cif front-ring numbers p)) =
     let u = feed-untouched p in
-    subst (λ (k : Held). History d k c) (λ t. held (sym (numbers-read numbers (ap (λ (q : FedPlaces). q .state) (u .places-are))) t) (leftIn (sym (u .lent-is) t .cif) (h .cif)) (leftIn (sym (u .lent-is) t .ring) (h .ring))) (swapped (as-crates x) (b .cif) (b .ring) front-cif front-ring)
+    subst (λ (k : Held). History d k c) (λ t. held (sym (numbers-read numbers (ap (λ (q : FedPlaces). q .state) (u .places-are))) t) (leftIn (sym (u .buffers-are) t .cif) (h .cif)) (leftIn (sym (u .buffers-are) t .ring) (h .ring))) (swapped (as-crates x) (b .cif) (b .ring) front-cif front-ring)
 as-crates {d} (fed {h} {c} soft b f b' f' x call) =
     subst (λ (s : State). History d (held s (b' .cif) (b' .ring)) (after (turnOf (stateIn (h .state)) soft b) soft c)) (sym (read-after call)) (crate-fed soft b (wrote call .fed) b' (as-crates x) (in-crate call))
 

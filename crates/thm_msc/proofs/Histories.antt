@@ -29,7 +29,7 @@ use Rattle.msc_handler.specs.Ring.{stored, part, refilled}
 use Rattle.msc_set_up.specs.Promises.{cleared, Prepared}
 use Rattle.msc_state.specs.States.{badState, valuesOf, ringLength, startedAt, freshState, setUpChecks, setUpRefusal, resetChecks, resetRefusal, whole, channelAfter}
 use Rattle.msc_handler.proofs.Feeding.{fed-refuses, fed-gathers, fed-completes}
-use Rattle.msc_handler.proofs.History.{board-fresh, board-lent, board-symbol, board-middle, board-whole, channel-fresh, channel-lent, channel-next, channel-reads-last}
+use Rattle.msc_handler.proofs.History.{board-fresh, board-elsewhere, board-symbol, board-middle, board-whole, channel-fresh, channel-elsewhere, channel-next, channel-reads-last}
 use Rattle.msc_moves.proofs.States.{after-middle, after-whole}
 use Rattle.msc_state.proofs.Refusals.{Sound, sound, set-up-long, reset-long, Accepted as CallAccepted, accepted}
 use Rattle.spec_sender.specs.Msc.{placeOf}
@@ -87,7 +87,7 @@ slice-length d cif inside l = length-take-le (valuesOf d) (drop (64 * d .«start
 module _ {d : Description} {c : Came} {h : Held} (v : Holds d c h) where
   -- the same over other stores with the same values in their needed part
   elsewhere : {cif ring : List ℤ} → ((p : ℕ) → p < cifBits → at cif p ≡ at (h .cif) p) → ((p : ℕ) → p < ringLength d → at ring p ≡ at (h .ring) p) → Holds d c (held (h .state) cif ring)
-  elsewhere e f = record { eighteen = v .eighteen; board = board-lent (v .board) e; channel = channel-lent (v .channel) f }
+  elsewhere e f = record { eighteen = v .eighteen; board = board-elsewhere (v .board) e; channel = channel-elsewhere (v .channel) f }
 
   after-refused : {h' : Held} → RefusedCall d h h' → Holds d c h'
   unfolding turnOf

@@ -66,7 +66,7 @@ given {d} {c} b {own} {said} b' h p =
       bits = b .bits;
       words' = f .words';
       bits' = f .bits';
-      framing = subst (Framed (endsOf (c .description .«is_eep»)) (c .description .bitrate) (depuncture (mask (profileOf (c .description))) (delayed c (b .ring))) (b .words) (b .bits) (b .frame) (f .percent) (f .words') (f .bits')) (sym (ap (λ (q : Buffers). q .frame) (f .lent))) (f .framing);
+      framing = subst (Framed (endsOf (c .description .«is_eep»)) (c .description .bitrate) (depuncture (mask (profileOf (c .description))) (delayed c (b .ring))) (b .words) (b .bits) (b .frame) (f .percent) (f .words') (f .bits')) (sym (ap (λ (q : Buffers). q .frame) (f .buffers-are))) (f .framing);
       answer = f .answer;
     } in
     subst (λ (e : Description). GaveFrame e (delayed c (b .ring)) said (b .frame) (b' .frame)) (h .description) g

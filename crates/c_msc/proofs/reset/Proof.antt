@@ -9,7 +9,7 @@ use borrow.Author.Needs.{needs}
 use Rattle.c_msc.proofs.reset.Statement.{statement}
 use Rattle.c_msc.proofs.reset.Tie as tie
 
--- the numbers that are lent
+-- the numbers that are given
 abbrev given : tie.After-read → List ℕ
 given r = r .before .before .before .args .state .now
 

@@ -2,7 +2,7 @@
 -- Assumes nothing.
 use borrow.Author.Needs.{needs}
 use mathlib.Core.Path.{sym}
-use Rattle.fic_handler.specs.Blocks.{lent, Lent}
+use Rattle.fic_handler.specs.Blocks.{ficBuffers, Buffers}
 use Rattle.fic.proofs.Turns.{Enough, few-fibs, fibs-of}
 use Rattle.fic.proofs.decode.Statement.{statement}
 use Rattle.fic.proofs.decode.Tie as tie
@@ -15,8 +15,8 @@ abbrev start : tie.After-some-bits → tie.Start
 start m = m .before .before .before .before
 
 -- what is given to it
-abbrev given : tie.After-process-fic → Lent
-given p = lent (made p .before .before .some-depunctured .result) (made p .before .some-words .result) (made p .some-bits .result) (start (made p) .args .fibs .now)
+abbrev given : tie.After-process-fic → Buffers
+given p = ficBuffers (made p .before .before .some-depunctured .result) (made p .before .some-words .result) (made p .some-bits .result) (start (made p) .args .fibs .now)
 
 enough : (p : tie.After-process-fic) → Enough (given p)
 enough p =

@@ -5,7 +5,7 @@ use Prim.Native.Nat.{ℕ, _≤_}
 use native.Mathlib.Omega.{arith}
 use lib.ListN.{length}
 use Rattle.laws.specs.Bits.{AreBits}
-use Rattle.fic_handler.specs.Blocks.{lent}
+use Rattle.fic_handler.specs.Blocks.{ficBuffers}
 use Rattle.fic_handler.proofs.Blocks.{data-front, data-length, data-are, block-done}
 use Rattle.fic_handler.proofs.process_block.Statement.{statement}
 use Rattle.fic_handler.proofs.process_block.Tie as tie
@@ -95,8 +95,8 @@ returns c =
     let decoded = afterDecodeBlockFromSliceKnown6 c .decode-block in
     let kept = c .before .before .keep-fibs in
     let dep = afterDepunctureFic c .depuncture-fic in
-    block-done (start .args .block .now) (lent (start .args .depunctured .now) (start .args .words .now) (start .args .bits .now) (start .args .fibs .now))
-    (lent (dep .last .1 .0) (decoded .last .1 .0) (decoded .last .1 .1 .0) (kept .last .1 .0)) (dep .result) (decoded .result) (kept .result) (start .pre .values) (dep .ensures) (decoded .ensures) (kept .ensures)
+    block-done (start .args .block .now) (ficBuffers (start .args .depunctured .now) (start .args .words .now) (start .args .bits .now) (start .args .fibs .now))
+    (ficBuffers (dep .last .1 .0) (decoded .last .1 .0) (decoded .last .1 .1 .0) (kept .last .1 .0)) (dep .result) (decoded .result) (kept .result) (start .pre .values) (dep .ensures) (decoded .ensures) (kept .ensures)
 
 pub process-block-spec : {M : Type 1} → statement M
 process-block-spec =

@@ -13,7 +13,7 @@ use lib.ListN.{length, set, take, drop, length-append, length-take, length-drop}
 use Rattle.laws.specs.Lists.{listFrom}
 use Rattle.laws.proofs.Slices.{tail-part, tail-put}
 use Rattle.fec_quality.specs.declared.Quality.{Quality}
-use Rattle.fic_handler.specs.Blocks.{joined, blockOf, dataBits, written, Lent, lent}
+use Rattle.fic_handler.specs.Blocks.{joined, blockOf, dataBits, written, Buffers, ficBuffers}
 use Rattle.fic_handler.specs.Code.{BlockProcessed, BlocksFit}
 use Rattle.fic_handler.specs.Promise.{Processed}
 use Rattle.fic_handler.proofs.Run.{Run, run-none, run-next, behind}
@@ -23,7 +23,7 @@ use Rattle.fic_handler.specs.declared.FicAnswer.the-variants.{Fibs}
 use Rattle.fic_handler.proofs.process_blocks.Statement.{statement}
 use Rattle.fic_handler.proofs.process_blocks.Tie as tie
 
-record Inv (xs : List ℤ) (n : ℕ) (before after : Lent) (passed : List ℕ) (quality : List Quality) (sum b : ℕ) : Type 0 where
+record Inv (xs : List ℤ) (n : ℕ) (before after : Buffers) (passed : List ℕ) (quality : List Quality) (sum b : ℕ) : Type 0 where
   inside : b ≤ n
   long-depunctured : length (after .depunctured) ≡ length (before .depunctured)
   long-words : length (after .words) ≡ length (before .words)
@@ -34,16 +34,16 @@ record Inv (xs : List ℤ) (n : ℕ) (before after : Lent) (passed : List ℕ) (
 joined-length : (a b c : List ℤ) → length (joined a b c) ≡ length a + (length b + length c)
 joined-length a b c = length-append a (b ++ c) ∙ ap (λ (n : ℕ). length a + n) (length-append b c)
 
-places-left : {xs : List ℤ} {n : ℕ} {before after : Lent} {passed : List ℕ} {quality : List Quality} {sum b : ℕ} → BlocksFit n xs before → b < n → Inv xs n before after passed quality sum b → 32 * sum + 96 ≤ length (after .fibs)
+places-left : {xs : List ℤ} {n : ℕ} {before after : Buffers} {passed : List ℕ} {quality : List Quality} {sum b : ℕ} → BlocksFit n xs before → b < n → Inv xs n before after passed quality sum b → 32 * sum + 96 ≤ length (after .fibs)
 places-left r h v = omega (arith, v .run .few, v .long-fibs, r .out)
 
-block-length : {n b : ℕ} {before : Lent} {block : List ℤ} (x y z : List ℤ) → BlocksFit n (joined x y z) before → b < n → block ≡ take 2304 (drop (2304 * b) (joined x y z)) → length block ≡ 2304
+block-length : {n b : ℕ} {before : Buffers} {block : List ℤ} (x y z : List ℤ) → BlocksFit n (joined x y z) before → b < n → block ≡ take 2304 (drop (2304 * b) (joined x y z)) → length block ≡ 2304
 block-length {n} {b} x y z fits-in h e = ap length e ∙ simp (length-take, length-drop) (omega (arith, fits-in .whole))
 
-at-most-three : {values : List ℤ} {before after : Lent} {count : ℕ} {q : Quality} → BlockProcessed values before count q after → count ≤ 3
+at-most-three : {values : List ℤ} {before after : Buffers} {count : ℕ} {q : Quality} → BlockProcessed values before count q after → count ≤ 3
 at-most-three p = omega (arith, p .count-is, count-le (dataBits (p .block .decoded)) 3)
 
-block-inside : {n b : ℕ} {before : Lent} (x y z : List ℤ) → BlocksFit n (joined x y z) before → b < n → (2304 * b + 2304 ≤ length x + (length y + length z)) × (2304 * b < 10000)
+block-inside : {n b : ℕ} {before : Buffers} (x y z : List ℤ) → BlocksFit n (joined x y z) before → b < n → (2304 * b + 2304 ≤ length x + (length y + length z)) × (2304 * b < 10000)
 block-inside x y z fits-in h = (omega (arith, fits-in .whole, joined-length x y z), omega (arith, fits-in .few))
 
 -- the bounds of the numbers that the code makes, each shown apart from the walk
@@ -53,10 +53,10 @@ bounds few h = (omega arith, omega arith, omega arith, omega arith, omega arith)
 sum-bounds : {n b sum count : ℕ} → n ≤ 4 → b < n → sum ≤ 3 * b → count ≤ 3 → Fits w64 (32 * sum) × Fits w64 (sum + count)
 sum-bounds few h s k = (omega arith, omega arith)
 
-start-inside : {xs : List ℤ} {n : ℕ} {before after : Lent} {passed : List ℕ} {quality : List Quality} {sum b : ℕ} → BlocksFit n xs before → b < n → Inv xs n before after passed quality sum b → 32 * sum ≤ length (after .fibs)
+start-inside : {xs : List ℤ} {n : ℕ} {before after : Buffers} {passed : List ℕ} {quality : List Quality} {sum b : ℕ} → BlocksFit n xs before → b < n → Inv xs n before after passed quality sum b → 32 * sum ≤ length (after .fibs)
 start-inside r h v = omega (arith, places-left r h v)
 
-tail-fits : {xs : List ℤ} {n : ℕ} {before after : Lent} {passed : List ℕ} {quality : List Quality} {sum b : ℕ} → BlocksFit n xs before → b < n → Inv xs n before after passed quality sum b → 96 ≤ length (take (length (after .fibs) - 32 * sum) (drop (32 * sum) (after .fibs)))
+tail-fits : {xs : List ℤ} {n : ℕ} {before after : Buffers} {passed : List ℕ} {quality : List Quality} {sum b : ℕ} → BlocksFit n xs before → b < n → Inv xs n before after passed quality sum b → 96 ≤ length (take (length (after .fibs) - 32 * sum) (drop (32 * sum) (after .fibs)))
 tail-fits r h v = simp (length-take, length-drop) (omega (arith, places-left r h v))
 
 nearer : {n b : ℕ} → b < n → n - (b + 1) < n - b
@@ -65,27 +65,27 @@ nearer h = omega arith
 one-more : {n b : ℕ} → b < n → b + 1 ≤ n
 one-more h = omega arith
 
--- one block more: the part of the output from byte 32 sum on was lent
-next : {xs : List ℤ} {n b sum count : ℕ} {before after : Lent} {passed : List ℕ} {quality : List Quality} {q : Quality} {block : List ℤ} {dep : List ℤ} {ws bs new : List ℕ} → b + 1 ≤ n → BlocksFit n xs before → b < n
+-- one block more: the part of the output from byte 32 sum on was given
+next : {xs : List ℤ} {n b sum count : ℕ} {before after : Buffers} {passed : List ℕ} {quality : List Quality} {q : Quality} {block : List ℤ} {dep : List ℤ} {ws bs new : List ℕ} → b + 1 ≤ n → BlocksFit n xs before → b < n
     → block ≡ take 2304 (drop (2304 * b) xs) → Inv xs n before after passed quality sum b
-    → BlockProcessed block (lent (after .depunctured) (after .words) (after .bits) (take (length (after .fibs) - 32 * sum) (drop (32 * sum) (after .fibs)))) count q (lent dep ws bs new)
+    → BlockProcessed block (ficBuffers (after .depunctured) (after .words) (after .bits) (take (length (after .fibs) - 32 * sum) (drop (32 * sum) (after .fibs)))) count q (ficBuffers dep ws bs new)
     → length dep ≡ length (after .depunctured) → length ws ≡ length (after .words) → length bs ≡ length (after .bits) → length new ≡ length (take (length (after .fibs) - 32 * sum) (drop (32 * sum) (after .fibs)))
-    → Inv xs n before (lent dep ws bs (putMid (32 * sum) (length (after .fibs) - 32 * sum) (after .fibs) new)) (set passed b count) (set quality b q) (sum + count) (b + 1)
+    → Inv xs n before (ficBuffers dep ws bs (putMid (32 * sum) (length (after .fibs) - 32 * sum) (after .fibs) new)) (set passed b count) (set quality b q) (sum + count) (b + 1)
 next {xs} {n} {b} {sum} {count} {before} {after} {passed} {quality} {q} {block} {dep} {ws} {bs} {new} inside fits-in h e v p ld lw lb lf =
     let fits : 32 * sum ≤ length (after .fibs) = omega (arith, places-left fits-in h v) in
-    let one : BlockProcessed (blockOf xs b) (behind after sum) count q (lent dep ws bs new) =
-    subst₂ (λ (vs : List ℤ) (fs : List ℕ). BlockProcessed vs (lent (after .depunctured) (after .words) (after .bits) fs) count q (lent dep ws bs new)) e (tail-part (32 * sum) (after .fibs) fits) p in
+    let one : BlockProcessed (blockOf xs b) (behind after sum) count q (ficBuffers dep ws bs new) =
+    subst₂ (λ (vs : List ℤ) (fs : List ℕ). BlockProcessed vs (ficBuffers (after .depunctured) (after .words) (after .bits) fs) count q (ficBuffers dep ws bs new)) e (tail-part (32 * sum) (after .fibs) fits) p in
     record {
       inside = inside;
       long-depunctured = ld ∙ v .long-depunctured;
       long-words = lw ∙ v .long-words;
       long-bits = lb ∙ v .long-bits;
       long-fibs = same-len-mid (32 * sum) (length (after .fibs) - 32 * sum) (after .fibs) new lf ∙ v .long-fibs;
-      run = subst (λ (fs : List ℕ). Run xs before (b + 1) (sum + count) (set passed b count) (set quality b q) (lent dep ws bs fs)) (sym (tail-put (32 * sum) (after .fibs) fits new)) (run-next xs before b sum count passed quality after (lent dep ws bs new) q (omega (arith, fits-in .few)) (v .run) one);
+      run = subst (λ (fs : List ℕ). Run xs before (b + 1) (sum + count) (set passed b count) (set quality b q) (ficBuffers dep ws bs fs)) (sym (tail-put (32 * sum) (after .fibs) fits new)) (run-next xs before b sum count passed quality after (ficBuffers dep ws bs new) q (omega (arith, fits-in .few)) (v .run) one);
     }
 
 -- after the last block
-whole-run : {xs : List ℤ} {n b sum : ℕ} {before after : Lent} {passed : List ℕ} {quality : List Quality} → n ≤ b → Inv xs n before after passed quality sum b → Processed xs n before (record { answer = Fibs sum; passed = passed; quality = quality }) after
+whole-run : {xs : List ℤ} {n b sum : ℕ} {before after : Buffers} {passed : List ℕ} {quality : List Quality} → n ≤ b → Inv xs n before after passed quality sum b → Processed xs n before (record { answer = Fibs sum; passed = passed; quality = quality }) after
 whole-run {xs} {n} {b} {sum} {before} {after} {passed} {quality} h v = subst (λ (m : ℕ). Processed xs m before (record { answer = Fibs sum; passed = passed; quality = quality }) after) same made
   where
     same : b ≡ n
@@ -109,7 +109,7 @@ whole-run {xs} {n} {b} {sum} {before} {after} {passed} {quality} h v = subst (λ
         }
 
 abbrev Inv-loop : tie.InvT-loop
-Inv-loop first second third n depunctured₀ words₀ bits₀ fibs₀ passed₀ quality₀ sum₀ b₀ depunctured words bits fibs passed quality sum b = Inv (joined first second third) n (lent depunctured₀ words₀ bits₀ fibs₀) (lent depunctured words bits fibs) passed quality sum b
+Inv-loop first second third n depunctured₀ words₀ bits₀ fibs₀ passed₀ quality₀ sum₀ b₀ depunctured words bits fibs passed quality sum b = Inv (joined first second third) n (ficBuffers depunctured₀ words₀ bits₀ fibs₀) (ficBuffers depunctured words bits fibs) passed quality sum b
 
 abbrev μ-loop : tie.MeasureT-loop
 μ-loop first second third n depunctured₀ words₀ bits₀ fibs₀ passed₀ quality₀ sum₀ b₀ depunctured words bits fibs passed quality sum b = n - b

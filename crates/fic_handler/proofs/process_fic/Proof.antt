@@ -9,7 +9,7 @@ use mir.Syntax.{w64}
 use mir.Val.{Fits}
 use lib.ListN.{length, length-append}
 use Rattle.fic_handler.specs.declared.Fic.{Fic}
-use Rattle.fic_handler.specs.Blocks.{joined, blocksIn, Lent, lent}
+use Rattle.fic_handler.specs.Blocks.{joined, blocksIn, Buffers, ficBuffers}
 use Rattle.fic_handler.specs.Promise.{processRefusal, Away, Processed, FicPromise}
 use Rattle.fic_handler.proofs.Refusals.{first-long, second-long, third-long, no-depunctured, no-words, no-bits, no-fibs, no-refusal, away, done}
 use Rattle.fic_handler.proofs.process_fic.Statement.{statement}
@@ -46,8 +46,8 @@ module _ (s : tie.Start) where
   abbrev three : List ℤ
   three = s .args .third .now
 
-  abbrev buffers : Lent
-  buffers = lent (s .args .depunctured .now) (s .args .words .now) (s .args .bits .now) (s .args .fibs .now)
+  abbrev buffers : Buffers
+  buffers = ficBuffers (s .args .depunctured .now) (s .args .words .now) (s .args .bits .now) (s .args .fibs .now)
 
   turned-by : {k : ℕ} {r : Fic} → processRefusal one two three buffers ≡ suc k → Away (suc k) r → FicPromise one two three buffers r buffers
   turned-by e a = away one two three buffers e a
@@ -200,7 +200,7 @@ returns-8 c =
     done (one s) (two s) (three s) (buffers s)
     (no-refusal (one s) (two s) (three s) (buffers s) (one-short t) (two-short t) (three-short t) (u .before .before .if4 .left) (u .before .if5 .left) (u .if6 .left) enough)
     (counted (one s) (two s) (three s)
-    (λ (n : ℕ). Processed (joined (one s) (two s) (three s)) n (buffers s) (call .result) (lent (call .last .1 .1 .1 .1 .0) (call .last .1 .1 .1 .1 .1 .0) (call .last .1 .1 .1 .1 .1 .1 .0) (call .last .1 .1 .1 .1 .1 .1 .1 .0)))
+    (λ (n : ℕ). Processed (joined (one s) (two s) (three s)) n (buffers s) (call .result) (ficBuffers (call .last .1 .1 .1 .1 .0) (call .last .1 .1 .1 .1 .1 .0) (call .last .1 .1 .1 .1 .1 .1 .0) (call .last .1 .1 .1 .1 .1 .1 .1 .0)))
     (call .ensures))
 
 pub process-fic-spec : {M : Type 1} → statement M

@@ -1,4 +1,4 @@
--- `msc_set_up::clear_ring` meets its contract: the part that is lent becomes zeros.
+-- `msc_set_up::clear_ring` meets its contract: the part that is given becomes zeros.
 -- Assumes nothing.
 use borrow.Author.Needs.{needs}
 use mathlib.Core.Path.{sym, ap, _∙_}

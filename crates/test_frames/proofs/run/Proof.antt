@@ -111,7 +111,7 @@ loop-again c =
       ring3 = three .listen3 .kept .1 .1 .1 .0 ∙ v .ring3;
     }
 
--- a ring is as long as it was lent, through its set-up and the loop
+-- a ring is as long as it was given, through its set-up and the loop
 ring1-kept : (c : tie.At-loop Inv-loop μ-loop) → length (c .loop .ring1) ≡ length (begun c .args .ring1 .now)
 ring1-kept c = c .loop .inv .ring1 ∙ first-ready (second-ready (third-ready c)) .start .kept .1 .0
 

@@ -1,4 +1,4 @@
--- `test_records::read_part` meets its contract: only the part that was lent to be read into is changed.
+-- `test_records::read_part` meets its contract: only the part that was given to be read into is changed.
 -- Assumes nothing.
 use mathlib.Core.Path.{_≡_, _∙_, ap, sym, subst⁻¹}
 use mathlib.Core.List.{List, _++_}
