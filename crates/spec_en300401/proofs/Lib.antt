@@ -3,6 +3,7 @@ pub mod Bytes
 pub mod Crc
 pub mod Dispersal
 pub mod Eep
+pub mod FibExamples
 pub mod Interleaving
 pub mod MotherCode
 pub mod Puncturing
