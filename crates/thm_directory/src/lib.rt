@@ -1,0 +1,1 @@
+// Proofs only: what holds of a directory that FIBs are read into.
