@@ -17,7 +17,8 @@ MARKS = {"pub", "abbrev", "unfoldable", "opaque", "pattern", "axiom"}
 # Words for operators: a dash joins them to a name.
 OPERATORS = {"lt", "le", "eq", "ne", "add", "sub", "mul", "div", "mod", "pow", "append", "snoc", "cons", "nil", "zero", "suc"}
 # Where a name that stands already would be the new one: of another kind in files of its own, so both keep it; or another word.
-CHOSEN = {"noCall": "no_call", "tooFew": "too_few", "tooLong": "too_long", "tooShort": "is_too_short", "isFree": "is_free_place", "bitsOfBytes": "bits_of_bytes", "countsOf": "counts_of", "bits_of_bytes": "bits_of_bytes_lem", "counts_of": "counts_of_lem"}
+CHOSEN = {"noCall": "no_call", "tooFew": "too_few", "tooLong": "too_long", "tooShort": "is_too_short", "isFree": "is_free_place", "bitsOfBytes": "bits_of_bytes", "countsOf": "counts_of", "bits_of_bytes": "bits_of_bytes_lem", "counts_of": "counts_of_lem", "left-out": "left_out"}
+ENGLISH = {"sub-channel", "set-up"}
 
 
 def files(top, endings):
@@ -85,10 +86,10 @@ def snake(word):
     return word
 
 
-def new_name(name, known):
+def new_name(name, known, whole):
     ps = [snake(p) for p in parts(name)]
-    if len(ps) == 1:
-        return ps[0]
+    if len(ps) == 1 or whole:
+        return "_".join(ps)
     # The split into at most two names that both are known keeps its dash; all other dashes join words.
     for i in range(1, len(ps)):
         a, b = "_".join(ps[:i]), "_".join(ps[i:])
@@ -122,7 +123,8 @@ def main():
     for n in sorted(names):
         if n in library:
             continue
-        m = new_name(n, known)
+        # What specs/ defines, fields and constructors too, is words; a lemma joins two names by a dash.
+        m = new_name(n, known, n in spec_names)
         if m != n:
             table[n] = m
     # Names that would fall together.
@@ -134,7 +136,10 @@ def main():
         if m in taken and m not in table or twins and n != min(twins + [n], key=first) or re.fullmatch(r"(as|in|data|record|open|where|module|use|mod|pub|let|do|elim|rw|cc|omega|simp|search|grind)", m):
             table[n] = m + "_lem"
             print(f"respell: {n}: {m} is taken")
-    table |= CHOSEN
+    for n, m in CHOSEN.items():
+        # a second run finds nothing
+        if n in names and ("_" not in n or {"bits_of_bytes": "bitsOfBytes", "counts_of": "countsOf"}[n] in names):
+            table[n] = m
     inside = os.path.join(top, "crates")
     for p in files(inside, (".antt", ".rt", ".edit")):
         rel = os.path.relpath(p, inside).split(os.sep)
@@ -149,19 +154,13 @@ def main():
             pick = {n: m for n, m in table.items() if n in brought or n in spec_names and n not in here}
         else:
             pick = table
-        code = p.endswith(".rt")
-
-        def turn(m):
-            w = m[0]
-            if w in pick:
-                return pick[w]
-            # a prime behind a name of a variable stays; a name that ends in one is looked for whole
-            return w
-
-        new = TOKEN.sub(turn, raw)
-        if code:
-            # clauses and comments only: no name of code has a dash or a capital inside
-            new = "".join(TOKEN.sub(turn, l) for l in raw.splitlines(keepends=True))
+        # In a comment or a text these two are English.
+        words = {n: m for n, m in pick.items() if n not in ENGLISH}
+        new = "".join(
+            TOKEN.sub(lambda m: (words if i % 2 else pick).get(m[0], m[0]), part)
+            for l in raw.splitlines(keepends=True)
+            for i, part in enumerate(re.split(r'(--.*|"[^"]*")' if p.endswith(".antt") else r'(//.*|"[^"]*")', l))
+        )
         if new != raw:
             with open(p, "w", encoding="utf-8") as f:
                 f.write(new)
