@@ -1,5 +1,7 @@
 // What every crate answers where it turns a caller away: document 01's number.
-#[derive(Drop)]
+#![tactic(auto)]
+
+#[derive(Clone, Copy)]
 pub struct Refusal {
     pub number: u8,
 }

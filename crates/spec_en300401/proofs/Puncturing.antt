@@ -12,7 +12,6 @@ use lib.Seq.{drop-nil}
 use lib.IntN.{ℤ, pos}
 use borrow.Author.Tests.{lt-ltb}
 use Rattle.laws.specs.Lists.{list_from, list_of, copies, count}
-use Rattle.laws.specs.Tables.{both, every}
 use Rattle.laws.specs.Integers.{at, pick_z}
 use Rattle.laws.proofs.Lists.{length-list_of, length-copies, count-append, count-copies}
 use Rattle.laws.proofs.Tables.{rule_at}

@@ -1,8 +1,8 @@
 -- Document 02, order 1: the directory of what is on the air, and how a FIB takes any directory to the next.
-use Rattle.std.specs.Prelude.{Bool, true, false, cond, ◌&&◌, List, [], ◌∷◌, ◌++◌, ℕ, zero, suc, ◌+◌, eqb, length, get_or, set, replicate, take, drop}
+use Rattle.std.specs.Prelude.{Bool, true, false, cond, ◌&&◌, List, [], ◌∷◌, ℕ, zero, suc, ◌+◌, eqb, set, replicate, take, drop}
 use Rattle.std.proofs.Math.Option.{Option, none, some}
-use Rattle.spec_en300401.specs.Fib.{Field, field_of, fib_bytes}
-use Rattle.spec_en300401.specs.Organisation.{SubChannel, Service, Entry, sub-channel, service, entries_of}
+use Rattle.spec_en300401.specs.Fib.{field_of, fib_bytes}
+use Rattle.spec_en300401.specs.Organisation.{SubChannel, Service, Entry, sub_channel, service, entries_of}
 
 -- 64 places of each: a sub-channel's place is its SubChId; a service has the place that was the lowest free one when it first came
 pub record Directory : Type 0 where
@@ -54,7 +54,7 @@ put_at (some p) s l = record { directory = record { subs = l.directory.subs; ser
 
 -- one entry: a later one replaces an earlier one; a sixty-fifth service is left out and counted
 unfoldable pub enter : Entry → Listed → Listed
-enter (sub-channel id c) l = record { directory = record { subs = set l.directory.subs id (some c); services = l.directory.services }; left_out = l.left_out }
+enter (sub_channel id c) l = record { directory = record { subs = set l.directory.subs id (some c); services = l.directory.services }; left_out = l.left_out }
 enter (service s) l = put_at (place_for s l.directory.services) s l
 
 unfoldable pub enter_all : List Entry → Listed → Listed

@@ -1,7 +1,7 @@
 -- Clauses 5.2.2.1, 6.2.1 and 6.3.1: FIG type 0, sub-channel organisation (0/1, short and long form) and service organisation (0/2), as entries in order.
 use Rattle.std.specs.Prelude.{Bool, true, false, cond, ◌&&◌, List, [], ◌∷◌, ◌++◌, ℕ, zero, suc, ◌+◌, ◌*◌, ◌/◌, ◌%◌, ◌^◌, eqb, ltb, length, get_or, take, drop}
 use Rattle.std.proofs.Math.Option.{Option, none, some}
-use Rattle.spec_en300401.specs.Fib.{Fig, Field, field_of}
+use Rattle.spec_en300401.specs.Fib.{Fig, field_of}
 use Rattle.spec_en300401.specs.Uep.{Row, uep_table, no_row}
 
 -- ---- what an entry says
@@ -23,7 +23,7 @@ pub record Service : Type 0 where
 
 -- an entry of FIG 0/1, with its SubChId, or of FIG 0/2
 pub data Entry : Type 0 where
-  sub-channel : ℕ → SubChannel → Entry
+  sub_channel : ℕ → SubChannel → Entry
   service : Service → Entry
 
 -- ---- FIG 0/1
@@ -62,7 +62,7 @@ long_form a b c d =
 
 -- a short form with the table switch set is reserved: stepped over
 abbrev pub short_entry : ℕ → ℕ → ℕ → List Entry
-short_entry a b c = cond (ltb c 64) (sub-channel (sub_ch_id a) (short_form a b c) ∷ []) []
+short_entry a b c = cond (ltb c 64) (sub_channel (sub_ch_id a) (short_form a b c) ∷ []) []
 
 -- the entries of FIG 0/1; one that the FIG's end cuts off is none
 unfoldable pub sub_channels : List ℕ → List Entry
@@ -70,7 +70,7 @@ sub_channels [] = []
 sub_channels (a ∷ []) = []
 sub_channels (a ∷ b ∷ []) = []
 sub_channels (a ∷ b ∷ c ∷ []) = cond (ltb c 128) (short_entry a b c) []
-sub_channels (a ∷ b ∷ c ∷ d ∷ bs) = cond (ltb c 128) (short_entry a b c ++ sub_channels (d ∷ bs)) (sub-channel (sub_ch_id a) (long_form a b c d) ∷ sub_channels bs)
+sub_channels (a ∷ b ∷ c ∷ d ∷ bs) = cond (ltb c 128) (short_entry a b c ++ sub_channels (d ∷ bs)) (sub_channel (sub_ch_id a) (long_form a b c d) ∷ sub_channels bs)
 
 -- ---- FIG 0/2
 

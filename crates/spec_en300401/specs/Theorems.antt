@@ -12,11 +12,11 @@ use Rattle.spec_en300401.specs.Uep.{Row, uep_row}
 abbrev pub DisperseTwice : Type 0
 DisperseTwice = (xs : List ℕ) → disperse (disperse xs) ≡ xs
 
--- what was sent, with any surplus after it, comes back: each kept place has its value, and 0 stands elsewhere (there-and-back)
+-- what was sent, with any surplus after it, comes back: each kept place has its value, and 0 stands elsewhere (there_and_back)
 abbrev pub ThereAndBack : Type 0
 ThereAndBack = (ks : List Bool) (xs ys : List ℤ) → length ks ≡ length xs → (i : ℕ) → i < length ks → at (depuncture ks (puncture ks xs ++ ys)) i ≡ pick_z (get_or ks i false) (at xs i) (pos 0)
 
--- bytes as bits and packed again are themselves (bytes-back)
+-- bytes as bits and packed again are themselves (bytes_back)
 abbrev pub BytesBack : Type 0
 BytesBack = (ys : List ℕ) → AreBytes ys → bytes_of_bits (bits_of_bytes ys) ≡ ys
 

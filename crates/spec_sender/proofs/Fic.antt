@@ -14,7 +14,7 @@ use Rattle.laws.proofs.Bits.{below-nil, below-cons, below-append}
 use Rattle.spec_en300401.specs.Bytes.{bits_of_bytes}
 use Rattle.spec_en300401.specs.Crc.{crc_word, fib_valid}
 use Rattle.spec_en300401.specs.MotherCode.{code_word}
-use Rattle.spec_en300401.specs.Puncturing.{Region, region_mask, mask, puncture, fic_profile, kept_size}
+use Rattle.spec_en300401.specs.Puncturing.{Region, region_mask, mask, puncture, fic_profile}
 use Rattle.spec_en300401.proofs.Bytes.{take-bits, drop_bits, two_bytes}
 use Rattle.spec_en300401.proofs.Puncturing.{length-region, fic-length, fic-kept}
 use Rattle.spec_sender.specs.Coding.{message, sent}

@@ -64,7 +64,7 @@ branch-most xs k s b =
 pub record Speaks (xs : List ℤ) (k s b : ℕ) : Type 0 where
   pub each : (g : ℕ) → g < 4 → Fair (soft xs k g) (out_bit s b g)
   pub place : ℕ
-  pub place-lt : place < 4
+  pub place_lt : place < 4
   pub heard : Agrees (soft xs k place) (out_bit s b place)
 
 module _ {xs : List ℤ} {k s b : ℕ} (h : Speaks xs k s b) where
@@ -79,7 +79,7 @@ module _ {xs : List ℤ} {k s b : ℕ} (h : Speaks xs k s b) where
 
   -- and that is something
   weight_some : 0 < weight xs k
-  weight_some = go h.place h.place-lt (agrees_some (soft xs k h.place) (out_bit s b h.place) h.heard)
+  weight_some = go h.place h.place_lt (agrees_some (soft xs k h.place) (out_bit s b h.place) h.heard)
     where
       go : (g : ℕ) → g < 4 → 0 < nat_abs (soft xs k g) → 0 < weight xs k
       go zero l a = omega arith
@@ -182,7 +182,7 @@ module _ {xs : List ℤ} {bs : List Bool} (c : Clean xs bs) (s : ℕ) (bs' : Lis
 -- so it is the best path, at either end
 pub clean_best : {xs : List ℤ} {n : ℕ} {bs : List Bool} → Clean xs bs → length bs ≡ n → (ends : Ends) → Permits ends (end_of 0 bs) → Best xs n ends 0 bs
 clean_best {xs} {n} {bs} c l ends p =
-    record { start-lt = omega arith; long = l; permitted = p; wins = λ s h bs' l' q. clean_wins c s bs' (l' ∙ sym l) }
+    record { start_lt = omega arith; long = l; permitted = p; wins = λ s h bs' l' q. clean_wins c s bs' (l' ∙ sym l) }
 
 -- ---- the sum of all sizes, over the list
 

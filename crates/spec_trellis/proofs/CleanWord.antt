@@ -49,7 +49,7 @@ heard_clean {xs} {a} h (next {b} {bs} e p) =
     (record {
       each = λ g l. subst (Fair (soft xs (length bs) g)) (sym (output_is p (bit_n b) e (bit_lt b) g l)) (h.each (length bs) g (omega arith) l);
       place = 0;
-      place-lt = omega arith;
+      place_lt = omega arith;
       heard = subst (Agrees (soft xs (length bs) 0)) (sym (output_is p (bit_n b) e (bit_lt b) 0 (omega arith))) (h.first (length bs) (omega arith));
     })
     (heard_clean (record { each = λ k g l. h.each k g (omega arith); first = λ k l. h.first k (omega arith) }) p)

@@ -67,12 +67,12 @@ step_six : (x b0 b1 b2 b3 b4 b5 : ℕ) → x < 2 → b0 < 2 → b1 < 2 → b2 < 
 unfolding next_state
 step_six x b0 b1 b2 b3 b4 b5 h h0 h1 h2 h3 h4 = omega arith
 
-pub state-is : {a : ℕ → ℕ} {bs : List Bool} → Spells a bs → end_of 0 bs ≡ state_at a (length bs)
+pub state_is : {a : ℕ → ℕ} {bs : List Bool} → Spells a bs → end_of 0 bs ≡ state_at a (length bs)
 unfolding end_of state_at
-state-is {a} nothing = omega (arith, earlier-none a 0, earlier-none a 1, earlier-none a 2, earlier-none a 3, earlier-none a 4, earlier-none a 5)
-state-is {a} (next {b} {bs} e p) =
+state_is {a} nothing = omega (arith, earlier-none a 0, earlier-none a 1, earlier-none a 2, earlier-none a 3, earlier-none a 4, earlier-none a 5)
+state_is {a} (next {b} {bs} e p) =
     let n : ℕ = length bs in
-    ap₂ next_state (state-is p) e
+    ap₂ next_state (state_is p) e
     ∙ step_six (a n) (earlier a n 1) (earlier a n 2) (earlier a n 3) (earlier a n 4) (earlier a n 5) (earlier a n 6) (omega (arith, bit_lt b)) (spelt-lt p 0) (spelt-lt p 1) (spelt-lt p 2) (spelt-lt p 3) (spelt-lt p 4)
     ∙ omega (arith, earlier_next a n 0, earlier_now a n, earlier_next a n 1, earlier_next a n 2, earlier_next a n 3, earlier_next a n 4, earlier_next a n 5)
 
@@ -130,7 +130,7 @@ module _ {a : ℕ → ℕ} {bs : List Bool} (p : Spells a bs) (x : ℕ) (now : x
   unfolding state_at
   same_sum f =
       let n : ℕ = length bs in
-      ap (of_bits f) (ap (λ (s : ℕ). 2 * s + x) (state-is p) ∙ swap (state_at a n) now)
+      ap (of_bits f) (ap (λ (s : ℕ). 2 * s + x) (state_is p) ∙ swap (state_at a n) now)
       ∙ of_bits_lem f (a n) (earlier a n 1) (earlier a n 2) (earlier a n 3) (earlier a n 4) (earlier a n 5) (earlier a n 6) (omega arith) (spelt-lt p 0) (spelt-lt p 1) (spelt-lt p 2) (spelt-lt p 3) (spelt-lt p 4) (spelt-lt p 5)
     where
       swap : (s : ℕ) {y z : ℕ} → y ≡ z → 2 * s + y ≡ z + 2 * s

@@ -108,21 +108,21 @@ wins-total xs s bs s' bs' l = scores (dec_lt (up a + dn a') (up a' + dn a)) (dec
 -- the best permitted path is one
 pub best_unique : {xs : List ℤ} {n : ℕ} {ends : Ends} {s : ℕ} {bs : List Bool} {s' : ℕ} {bs' : List Bool} → Best xs n ends s bs → Best xs n ends s' bs' → SamePath s bs s' bs'
 best_unique {xs} {n} {ends} {s} {bs} {s'} {bs'} f g =
-    wins_antisym xs s bs s' bs' (f.wins s' g.start-lt bs' g.long g.permitted) (g.wins s f.start-lt bs f.long f.permitted)
+    wins_antisym xs s bs s' bs' (f.wins s' g.start_lt bs' g.long g.permitted) (g.wins s f.start_lt bs f.long f.permitted)
 
 pub path_unique : BestUnique
 path_unique xs n ends s bs s' bs' = best_unique
 
 pub into_unique : {xs : List ℤ} {n e : ℕ} {s : ℕ} {bs : List Bool} {s' : ℕ} {bs' : List Bool} → BestInto xs n e s bs → BestInto xs n e s' bs' → SamePath s bs s' bs'
 into_unique {xs} {n} {e} {s} {bs} {s'} {bs'} f g =
-    wins_antisym xs s bs s' bs' (f.wins s' g.start-lt bs' g.long g.into) (g.wins s f.start-lt bs f.long f.into)
+    wins_antisym xs s bs s' bs' (f.wins s' g.start_lt bs' g.long g.into) (g.wins s f.start_lt bs f.long f.into)
 
 -- and the best score
 pub top_unique : {xs : List ℤ} {n : ℕ} {b c : ℤ} → Top xs n b → Top xs n c → b ≡ c
 top_unique {xs} {n} {b} {c} f g =
     ≤ℤ-antisym
-    (subst (λ (z : ℤ). z ≤ℤ c) f.scores (g.most f.start f.start-lt f.path f.long))
-    (subst (λ (z : ℤ). z ≤ℤ b) g.scores (f.most g.start g.start-lt g.path g.long))
+    (subst (λ (z : ℤ). z ≤ℤ c) f.scores (g.most f.start f.start_lt f.path f.long))
+    (subst (λ (z : ℤ). z ≤ℤ b) g.scores (f.most g.start g.start_lt g.path g.long))
 
 -- a path that does not lose scores at least as much
 pub wins-most : (xs : List ℤ) (s : ℕ) (bs : List Bool) (s' : ℕ) (bs' : List Bool) → Wins xs s bs s' bs' → score_of xs s' bs' ≤ℤ score_of xs s bs

@@ -33,7 +33,7 @@ bound_next σ n x h f s l = pick (ℕ_discrete s n)
     pick (no e) = f s (omega arith)
 
 pub greatest_one : (σ : ℕ → ℤ) → Greatest σ 1 (σ 0)
-greatest_one σ = record { above = λ s h. subst (λ (m : ℕ). σ m ≤ℤ σ 0) (only_zero s h) (≤ℤ_refl (σ 0)); place = 0; place-lt = omega arith; is = refl }
+greatest_one σ = record { above = λ s h. subst (λ (m : ℕ). σ m ≤ℤ σ 0) (only_zero s h) (≤ℤ_refl (σ 0)); place = 0; place_lt = omega arith; is = refl }
 
 pub greatest_next : (σ : ℕ → ℤ) (n : ℕ) (m : ℤ) → Greatest σ n m → Greatest σ (n + 1) (pick_z (lt_z m (σ n)) (σ n) m)
 greatest_next σ n m t = go (lt_z m (σ n)) refl
@@ -43,14 +43,14 @@ greatest_next σ n m t = go (lt_z m (σ n)) refl
         record {
           above = bound_next σ n (σ n) (≤ℤ_refl (σ n)) (λ k h. ≤ℤ-trans (t.above k h) (parts_le m (σ n) (omega (arith, lt_z_true m (σ n) e))));
           place = n;
-          place-lt = omega arith;
+          place_lt = omega arith;
           is = refl;
         }
     go false e =
         record {
           above = bound_next σ n m (parts_le (σ n) m (omega (arith, lt_z_false m (σ n) e))) t.above;
           place = t.place;
-          place-lt = omega (arith, t.place-lt);
+          place_lt = omega (arith, t.place_lt);
           is = t.is;
         }
 
@@ -106,8 +106,8 @@ module _ (xs : List ℤ) (k : ℕ) (σ : ℕ → ℤ) (r : Running xs k σ) wher
         let p : ℕ = g.place in
         let v : ℤ = survivor xs (suc k) p in
         let d : ℤ = r.total in
-        let ep = g.is ∙ new_each p g.place-lt in
-        survivor_top xs (suc k) p g.place-lt
+        let ep = g.is ∙ new_each p g.place_lt in
+        survivor_top xs (suc k) p g.place_lt
         (λ u h.
         let w : ℤ = survivor xs (suc k) u in
         let eu = new_each u h in
@@ -117,7 +117,7 @@ module _ (xs : List ℤ) (k : ℕ) (σ : ℕ → ℤ) (r : Running xs k σ) wher
     running_next ρ (stays m g l e) =
         let v : ℤ = survivor xs (suc k) g.place in
         let d : ℤ = r.total in
-        let ep : m ≡ v -ℤ d = g.is ∙ new_each g.place g.place-lt in
+        let ep : m ≡ v -ℤ d = g.is ∙ new_each g.place g.place_lt in
         rw add-one
         (record {
           total = d;
@@ -127,7 +127,7 @@ module _ (xs : List ℤ) (k : ℕ) (σ : ℕ → ℤ) (r : Running xs k σ) wher
     running_next ρ (falls m g l e) =
         let v : ℤ = survivor xs (suc k) g.place in
         let d : ℤ = r.total in
-        let ep : m ≡ v -ℤ d = g.is ∙ new_each g.place g.place-lt in
+        let ep : m ≡ v -ℤ d = g.is ∙ new_each g.place g.place_lt in
         rw add-one
         (record {
           total = v;

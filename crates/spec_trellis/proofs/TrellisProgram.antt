@@ -233,7 +233,7 @@ module _ (xs : List ℤ) (n e : ℕ) (he : e < 64) where
   pub into-best : BestInto xs n e (start_into xs n e) (bits_into xs n e)
   into-best =
       record {
-        start-lt = into-start xs n e he;
+        start_lt = into-start xs n e he;
         long = into-length xs n e;
         into = into_end xs n e he;
         wins = λ s hs bs l r. wins_over s hs bs l (inr (subst (λ (m : ℕ). survivor xs n m ≤ℤ survivor xs n e) (sym r) (≤ℤ_refl (survivor xs n e)), inr (sym r)));
@@ -244,7 +244,7 @@ module _ (xs : List ℤ) (n e : ℕ) (he : e < 64) where
   unfolding Permits
   zero-best z =
       record {
-        start-lt = into-start xs n e he;
+        start_lt = into-start xs n e he;
         long = into-length xs n e;
         permitted = into_end xs n e he ∙ z;
         wins = λ s hs bs l r. into-best.wins s hs bs l (r ∙ sym z);
@@ -255,7 +255,7 @@ module _ (xs : List ℤ) (n e : ℕ) (he : e < 64) where
   unfolding Permits
   free_best top first =
       record {
-        start-lt = into-start xs n e he;
+        start_lt = into-start xs n e he;
         long = into-length xs n e;
         permitted = tt;
         wins = λ s hs bs l r. wins_over s hs bs l (side (end_of s bs) (end_lt s hs bs) (dec_lt (end_of s bs) e) (ℕ_discrete e (end_of s bs)));
@@ -272,7 +272,7 @@ module _ (xs : List ℤ) (n e : ℕ) (he : e < 64) where
       record {
         start = start_into xs n e;
         path = bits_into xs n e;
-        start-lt = into-start xs n e he;
+        start_lt = into-start xs n e he;
         long = into-length xs n e;
         scores = into_score xs n e he;
         most = λ s hs bs l. ≤ℤ-trans (at_most xs n s hs bs l) (top (end_of s bs) (end_lt s hs bs));
@@ -288,7 +288,7 @@ best_score {xs} {n} {e} {s} {bs} h f =
     v = survivor xs n e
 
     most : score_of xs s bs ≤ℤ v
-    most = subst (λ (m : ℕ). score_of xs s bs ≤ℤ survivor xs n m) f.into (at_most xs n s f.start-lt bs f.long)
+    most = subst (λ (m : ℕ). score_of xs s bs ≤ℤ survivor xs n m) f.into (at_most xs n s f.start_lt bs f.long)
 
     go : {L : Type 0} → (score_of xs (start_into xs n e) (bits_into xs n e) <ℤ score_of xs s bs) ⊎ ((score_of xs (start_into xs n e) (bits_into xs n e) ≡ score_of xs s bs) × L) → score_of xs s bs ≡ v
     go (inl l) = ≤ℤ-antisym most (parts_le v (score_of xs s bs) (omega (arith, lt_parts l, ap up (into_score xs n e h), ap dn (into_score xs n e h))))

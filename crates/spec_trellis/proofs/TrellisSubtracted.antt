@@ -2,7 +2,7 @@
 -- Assumes nothing.
 use mathlib.Core.Path.{◌≡◌, refl, sym, ap, subst}
 use mathlib.Core.List.{List}
-use Prim.Native.Nat.{ℕ, zero, suc, ◌+◌, ◌-◌, ◌<◌, ◌≤◌}
+use Prim.Native.Nat.{ℕ, zero, suc, ◌+◌, ◌<◌, ◌≤◌}
 use native.Mathlib.Omega.{arith}
 use lib.IntN.{ℤ, pos, negsuc, nat_abs, ◌-ℤ◌}
 use lib.Signed.{◌≤ℤ◌}
@@ -39,8 +39,8 @@ survivor-le {xs} {n} {b} t s h =
 pub survivor_ge : {xs : List ℤ} {n : ℕ} {b : ℤ} → Top xs n b → (u : ℕ) × (u < 64) × (b ≤ℤ survivor xs n u)
 survivor_ge {xs} {n} {b} t = (
   end_of t.start t.path,
-  end_lt t.start t.start-lt t.path,
-  subst (λ (z : ℤ). z ≤ℤ survivor xs n (end_of t.start t.path)) t.scores (at_most xs n t.start t.start-lt t.path t.long),
+  end_lt t.start t.start_lt t.path,
+  subst (λ (z : ℤ). z ≤ℤ survivor xs n (end_of t.start t.path)) t.scores (at_most xs n t.start t.start_lt t.path t.long),
 )
 
 -- less the total subtracted, no survivor scores more than 100,000

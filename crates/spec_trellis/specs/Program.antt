@@ -58,7 +58,7 @@ start_into xs (suc k) t = start_into xs k (pred_of xs k t)
 pub record Greatest (σ : ℕ → ℤ) (n : ℕ) (m : ℤ) : Type 0 where
   pub above : (s : ℕ) → s < n → σ s ≤ℤ m
   pub place : ℕ
-  pub place-lt : place < n
+  pub place_lt : place < n
   pub is : m ≡ σ place
 
 -- p is the first place of the greatest of the first n values

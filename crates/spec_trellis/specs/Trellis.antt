@@ -92,7 +92,7 @@ Permits free_end e = Unit {0}
 
 -- the path of n steps that every other permitted path loses to
 pub record Best (xs : List ℤ) (n : ℕ) (ends : Ends) (start : ℕ) (path : List Bool) : Type 0 where
-  pub start-lt : start < 64
+  pub start_lt : start < 64
   pub long : length path ≡ n
   pub permitted : Permits ends (end_of start path)
   pub wins : (s : ℕ) → s < 64 → (bs : List Bool) → length bs ≡ n → Permits ends (end_of s bs) → Wins xs start path s bs
@@ -103,7 +103,7 @@ NoneAbove xs n ends z = (s : ℕ) → s < 64 → (bs : List Bool) → length bs 
 
 -- a path of n steps into state e that every other path into e loses to
 pub record BestInto (xs : List ℤ) (n e start : ℕ) (path : List Bool) : Type 0 where
-  pub start-lt : start < 64
+  pub start_lt : start < 64
   pub long : length path ≡ n
   pub into : end_of start path ≡ e
   pub wins : (s : ℕ) → s < 64 → (bs : List Bool) → length bs ≡ n → end_of s bs ≡ e → Wins xs start path s bs
@@ -112,7 +112,7 @@ pub record BestInto (xs : List ℤ) (n e start : ℕ) (path : List Bool) : Type 
 pub record Top (xs : List ℤ) (n : ℕ) (b : ℤ) : Type 0 where
   pub start : ℕ
   pub path : List Bool
-  pub start-lt : start < 64
+  pub start_lt : start < 64
   pub long : length path ≡ n
   pub scores : score_of xs start path ≡ b
   pub most : (s : ℕ) → s < 64 → (bs : List Bool) → length bs ≡ n → score_of xs s bs ≤ℤ b
