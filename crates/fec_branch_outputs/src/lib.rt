@@ -1,4 +1,6 @@
 // The outputs of the mother code's trellis: from each state, at each input, four bits.
+#![tactic(auto)]
+
 ghost use Rattle.std.specs.Prelude.{◌≡◌};
 ghost use Rattle.fec_branch_outputs.specs.Outputs.{branch_outputs};
 

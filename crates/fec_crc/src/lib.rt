@@ -1,4 +1,6 @@
 // The CRC of a FIB: the byte test (constants.rs) and the bit test (fic/handler.rs).
+#![tactic(auto)]
+
 ghost use Rattle.std.specs.Prelude.{◌≡◌, ◌+◌, ◌*◌, ◌/◌, ◌%◌, ◌^◌, ◌<◌, length};
 ghost use Rattle.laws.specs.Bits.{num_of, bits_of, AreBits};
 ghost use Rattle.spec_en300401.specs.Bytes.{bits_of_bytes};

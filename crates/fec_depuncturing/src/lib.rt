@@ -1,4 +1,6 @@
 // Depuncturing: what is not sent is filled in with 0, for a sub-channel by its description and for the FIC (eep.rs and uep.rs).
+#![tactic(auto)]
+
 ghost use Rattle.std.specs.Prelude.{◌≡◌, ◌+◌, ◌*◌, ◌<◌, ◌≤◌, ◌^◌, length, pos};
 ghost use Rattle.std.proofs.lemmas.List.Edits.{sets};
 ghost use Rattle.laws.specs.Integers.{at, pick_z};

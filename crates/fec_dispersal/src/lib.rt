@@ -1,4 +1,6 @@
 // Energy dispersal (fec/energy_dispersal.rs): the same for scrambling and for undoing it.
+#![tactic(auto)]
+
 ghost use Rattle.std.specs.Prelude.{◌≡◌, ◌+◌, ◌*◌, ◌/◌, ◌%◌, ◌<◌};
 ghost use Rattle.std.specs.Int.Bits.{bit_xor};
 ghost use Rattle.spec_en300401.specs.Dispersal.{disperse};

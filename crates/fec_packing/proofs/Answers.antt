@@ -7,7 +7,6 @@ use native.Mathlib.Omega.{arith}
 use borrow.Author.Tests.{lt-ltb, le-ltb}
 use lib.ListN.{length, drop}
 use Rattle.refusal.proofs.Laws.{refused_by, given_by, where_done, where_refused}
-use Rattle.fec_packing.specs.declared.Packing.{Packing}
 use Rattle.fec_packing.specs.declared.Packing.TheVariants.{Packed, Refused}
 use Rattle.fec_packing.specs.Bytes.{bytes_of, pack_refusal, packed, Packs}
 

@@ -1,11 +1,13 @@
 // Decoded bits to bytes, the high bit first (fic/handler.rs and msc/mod.rs, each in its own loop there).
+#![tactic(auto)]
+
 ghost use Rattle.std.specs.Prelude.{◌≡◌, map, ◌+◌, ◌*◌, ◌/◌, ◌<◌, length};
 ghost use Rattle.laws.specs.Bits.{num_of};
 ghost use Rattle.fec_packing.specs.Bytes.{as_bit, bytes_of, Packs};
 
 use refusal::Refusal;
 
-#[derive(Drop)]
+#[derive(Clone, Copy)]
 pub enum Packing {
     Packed(usize),
     Refused(Refusal),

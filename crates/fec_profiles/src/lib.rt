@@ -1,5 +1,7 @@
 // The tables of the standard as the code holds them: the puncturing vectors, the tail and the 64 UEP profiles. `pi` counts from 0 here.
 // The tables are flat: they check far quicker so.
+#![tactic(auto)]
+
 ghost use Rattle.std.specs.Prelude.{◌≡◌, ◌<◌, get_or};
 ghost use Rattle.spec_en300401.specs.Puncturing.{tail_mask};
 ghost use Rattle.spec_en300401.specs.Uep.{no_row, uep_table};
@@ -7,7 +9,7 @@ ghost use Rattle.fec_profiles.specs.Code.{IsTable};
 ghost use Rattle.fec_profiles.specs.Rows.{bits, vector_at, profile_row, found_as, uep_found};
 
 // A row of the UEP table: blocks and `pi` of four regions; an empty region's `pi` is 24, none of the 24.
-#[derive(Drop)]
+#[derive(Clone, Copy)]
 pub struct UepProfile {
     pub bitrate: u16,
     pub level: u16,
@@ -21,7 +23,7 @@ pub struct UepProfile {
     pub pi4: u16,
 }
 
-#[derive(Drop)]
+#[derive(Clone, Copy)]
 pub enum Found {
     Row(UepProfile),
     Nothing,

@@ -1,4 +1,6 @@
 // Protection: descriptions and their refusals 1 to 7, and the row and the sizes of a description (eep.rs and uep.rs).
+#![tactic(auto)]
+
 ghost use Rattle.std.specs.Prelude.{◌≡◌, [], ◌+◌, ◌*◌, ◌/◌, ◌%◌, ◌<◌, ◌≤◌, ◌^◌};
 ghost use Rattle.spec_en300401.specs.Puncturing.{kept_size};
 ghost use Rattle.spec_en300401.specs.Eep.{unit, eep_profile};
@@ -14,7 +16,7 @@ use fec_profiles::Found;
 use refusal::Refusal;
 
 // A sub-channel's place, size, bit rate and protection, as they follow from FIG 0/1: units, units, kbit/s.
-#[derive(Drop)]
+#[derive(Clone, Copy)]
 pub struct Description {
     pub start_addr: u16,
     pub sub_size: u16,
@@ -24,33 +26,33 @@ pub struct Description {
     pub is_eep: bool,
 }
 
-#[derive(Drop)]
+#[derive(Clone, Copy)]
 pub enum Judged {
     Accepted,
     Refused(Refusal),
 }
 
 // Blocks and vectors of four regions; `pi` counts from 0, and 24 stands with an empty region.
-#[derive(Drop)]
+#[derive(Clone, Copy)]
 pub struct ProtectionParams {
     pub blocks: [usize; 4],
     pub pi: [usize; 4],
 }
 
-#[derive(Drop)]
+#[derive(Clone, Copy)]
 pub struct Lookup {
     pub judged: Judged,
     pub params: ProtectionParams,
 }
 
-#[derive(Drop)]
+#[derive(Clone, Copy)]
 pub enum Size {
     Values(usize),
     Refused(Refusal),
 }
 
 // L1 is fold1 × n - 3, L2 is fold2 × n + 3.
-#[derive(Drop)]
+#[derive(Clone, Copy)]
 struct EepLevel {
     fold1: usize,
     fold2: usize,

@@ -8,7 +8,6 @@ use borrow.Author.Tests.{lt-ltb, le-ltb}
 use lib.ListN.{length}
 use lib.IntN.{ℤ}
 use Rattle.refusal.specs.Outcome.{gives, outcome}
-use Rattle.fec_quality.specs.declared.Quality.{Quality}
 use Rattle.fec_quality.specs.declared.Measured.{Measured}
 use Rattle.fec_quality.specs.declared.Measured.TheVariants.{Is, Refused}
 use Rattle.fec_quality.specs.Figures.{quality_of, measured_as, measure_refusal, measured}

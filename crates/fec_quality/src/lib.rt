@@ -1,17 +1,19 @@
 // The quality of a decoding: what the Rust works out for its log lines, as one record.
+#![tactic(auto)]
+
 ghost use Rattle.std.specs.Prelude.{◌≡◌, ◌+◌, ◌*◌, ◌^◌, ◌<◌, ◌≤◌, pos, nat_abs, ◌+ℤ◌, length};
 ghost use Rattle.fec_quality.specs.Figures.{sum_abs, percent_of, measured_as, measured, nothing};
 
 use refusal::Refusal;
 
-#[derive(Drop)]
+#[derive(Clone, Copy)]
 pub struct Quality {
     pub metric: i32,
     pub sum: i32,
     pub percent: f64,
 }
 
-#[derive(Drop)]
+#[derive(Clone, Copy)]
 pub enum Measured {
     Is(Quality),
     Refused(Refusal),

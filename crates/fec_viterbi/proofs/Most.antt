@@ -19,7 +19,7 @@ accepted-most {ends} {xs} {n} {words} {bits} a =
     record {
       start = a.start;
       path = a.path;
-      start-lt = a.best.start-lt;
+      start_lt = a.best.start_lt;
       long = a.best.long;
       permitted = a.best.permitted;
       bits_are = ap (take n) a.bits_are ∙ take_at front (drop n bits) n long;
@@ -29,4 +29,4 @@ accepted-most {ends} {xs} {n} {words} {bits} a =
 -- for both decoders: what stands at the front of the bits after an accepted call
 pub decoded-most : DecodedIsMost
 decoded-most ends xs words bits r words' bits' z d =
-    accepted-most (done_of (Accepted ends xs (steps xs) words bits d.metric words' bits') (Untouched words bits words' bits') (decoder_refusal (steps xs) (length words) (length bits)) z d.buffers-are)
+    accepted-most (done_of (Accepted ends xs (steps xs) words bits d.metric words' bits') (Untouched words bits words' bits') (decoder_refusal (steps xs) (length words) (length bits)) z d.buffers_are)

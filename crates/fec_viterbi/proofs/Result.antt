@@ -37,7 +37,7 @@ left_of {ends} {xs} {n} {words} {bits} {m} {words'} {bits'} h a =
     record {
       decoded = reverse (map bit_n a.path);
       choices = take n words';
-      decodes = record { start = a.start; path = a.path; best = a.best; bits_are = refl; total = a.total; subtracted = a.subtracted; metric-is = a.metric-is };
+      decodes = record { start = a.start; path = a.path; best = a.best; bits_are = refl; total = a.total; subtracted = a.subtracted; metric_is = a.metric_is };
       chosen = record { long = length-take-le n words' (omega (arith, a.size)); each = λ t l. rw (get_or-take n words' t 0 l) (a.words_are t l) };
       bits_are = a.bits_are;
       words_are = sym (take-append-drop n words') ∙ ap (λ (r : List ℕ). take n words' ++ r) a.beyond;
@@ -53,8 +53,8 @@ pub finished : {ends : Ends} {xs : List ℤ} {words bits : List ℕ} (r : Decodi
 finished {ends} {xs} {words} {bits} r {words'} {bits'} few w b d =
     record {
       metric = d.metric;
-      done_is = is r (d.answer-is ∙ ap (λ (n : ℕ). outcome n d.metric) none_is);
-      left = left_of w (done_of (Accepted ends xs (steps xs) words bits d.metric words' bits') (Untouched words bits words' bits') (decoder_refusal (steps xs) (length words) (length bits)) none_is d.buffers-are);
+      done_is = is r (d.answer_is ∙ ap (λ (n : ℕ). outcome n d.metric) none_is);
+      left = left_of w (done_of (Accepted ends xs (steps xs) words bits d.metric words' bits') (Untouched words bits words' bits') (decoder_refusal (steps xs) (length words) (length bits)) none_is d.buffers_are);
     }
   where
     none_is : decoder_refusal (steps xs) (length words) (length bits) ≡ 0
@@ -71,7 +71,7 @@ bits-one f g = f.bits_are ∙ ap (λ (p : List Bool). reverse (map bit_n p)) (be
 pub metric-one : {ends : Ends} {xs : List ℤ} {n : ℕ} {bits bits' : List ℕ} {m m' : ℤ} → Decodes ends xs n bits m → Decodes ends xs n bits' m' → m ≡ m'
 metric-one {xs = xs} f g =
     let s = best_unique f.best g.best in
-    f.metric-is ∙ (λ i. score_of xs (s.start_is i) (s.bits_are i) -ℤ subtracted_unique f.subtracted g.subtracted i) ∙ sym g.metric-is
+    f.metric_is ∙ (λ i. score_of xs (s.start_is i) (s.bits_are i) -ℤ subtracted_unique f.subtracted g.subtracted i) ∙ sym g.metric_is
 
 pub words-one : {xs : List ℤ} {n : ℕ} {words words' : List ℕ} → ChoiceWords xs n words → ChoiceWords xs n words' → words ≡ words'
 words-one {words = words} {words'} f g = ext_get_or 0 words words' (f.long ∙ sym g.long) (λ i h. word_unique (f.each i (omega (arith, f.long))) (g.each i (omega (arith, f.long))))

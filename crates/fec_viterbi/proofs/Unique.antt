@@ -37,7 +37,7 @@ word_unique {v = v} {w = w} f g = word_same 64 v w f.word_lt g.word_lt (bit_uniq
 
 -- one metric, one list of words and one of bits
 pub record SameLists (m : ℤ) (words bits : List ℕ) (m' : ℤ) (words' bits' : List ℕ) : Type 0 where
-  pub metric-is : m ≡ m'
+  pub metric_is : m ≡ m'
   pub words_are : words ≡ words'
   pub bits_are : bits ≡ bits'
 
@@ -47,9 +47,9 @@ module _ {ends : Ends} {xs : List ℤ} {n : ℕ} {words bits : List ℕ} {m m' :
 
   metric_unique : m ≡ m'
   metric_unique =
-      f.metric-is
+      f.metric_is
       ∙ (λ i. score_of xs (path_same.start_is i) (path_same.bits_are i) -ℤ subtracted_unique f.subtracted g.subtracted i)
-      ∙ sym g.metric-is
+      ∙ sym g.metric_is
 
   bits_unique : bs ≡ bs'
   bits_unique = f.bits_are ∙ ap (λ (p : List Bool). reverse (map bit_n p) ++ drop n bits) path_same.bits_are ∙ sym g.bits_are
@@ -66,11 +66,11 @@ module _ {ends : Ends} {xs : List ℤ} {n : ℕ} {words bits : List ℕ} {m m' :
           (sym (get_or-drop n ws k 0) ∙ ap (λ (l : List ℕ). get_or l k 0) (f.beyond ∙ sym g.beyond) ∙ get_or-drop n ws' k 0)
 
   pub accepted_unique : SameLists m ws bs m' ws' bs'
-  accepted_unique = record { metric-is = metric_unique; words_are = words_unique; bits_are = bits_unique }
+  accepted_unique = record { metric_is = metric_unique; words_are = words_unique; bits_are = bits_unique }
 
 -- for every input the promise allows one result
 pub decoded_unique : DecodedUnique
-decoded_unique ends xs words bits r ws bs r' ws' bs' f g = go (decoder_refusal (steps xs) (length words) (length bits)) f.answer-is g.answer-is f.buffers-are g.buffers-are
+decoded_unique ends xs words bits r ws bs r' ws' bs' f g = go (decoder_refusal (steps xs) (length words) (length bits)) f.answer_is g.answer_is f.buffers_are g.buffers_are
   where
     one : (r r' : Decoding) → decoded_as r ≡ decoded_as r' → r ≡ r'
     one (Done s) (Done s') e = ap (λ (z : ℤ). Done (record { metric = z })) (let z : s.metric ≡ s'.metric = cc in z)
@@ -82,5 +82,5 @@ decoded_unique ends xs words bits r ws bs r' ws' bs' f g = go (decoder_refusal (
         → unless_refused n (Accepted ends xs (steps xs) words bits f.metric ws bs) (Untouched words bits ws bs) → unless_refused n (Accepted ends xs (steps xs) words bits g.metric ws' bs') (Untouched words bits ws' bs') → SameDecoding r ws bs r' ws' bs'
     go zero a a' x y =
         let same = accepted_unique x y in
-        record { answer-is = one r r' (a ∙ ap gives same.metric-is ∙ sym a'); words_are = same.words_are; bits_are = same.bits_are }
-    go (suc n) a a' x y = record { answer-is = one r r' (a ∙ sym a'); words_are = x.words_are ∙ sym y.words_are; bits_are = x.bits_are ∙ sym y.bits_are }
+        record { answer_is = one r r' (a ∙ ap gives same.metric_is ∙ sym a'); words_are = same.words_are; bits_are = same.bits_are }
+    go (suc n) a a' x y = record { answer_is = one r r' (a ∙ sym a'); words_are = x.words_are ∙ sym y.words_are; bits_are = x.bits_are ∙ sym y.bits_are }

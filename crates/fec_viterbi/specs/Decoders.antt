@@ -36,7 +36,7 @@ pub record Accepted (ends : Ends) (xs : List ℤ) (n : ℕ) (words bits : List �
   pub bits_are : bits' ≡ reverse (map bit_n path) ++ drop n bits
   pub total : ℤ
   pub subtracted : Subtracted xs n total
-  pub metric-is : metric ≡ score_of xs start path -ℤ total
+  pub metric_is : metric ≡ score_of xs start path -ℤ total
   pub size : length words' ≡ length words
   pub words_are : (t : ℕ) → t < n → Choices xs t (get_or words' t 0)
   pub beyond : drop n words' ≡ drop n words
@@ -49,8 +49,8 @@ pub record Untouched (words bits words' bits' : List ℕ) : Type 0 where
 -- the promise of a decoder that permits these ends: the metric or the first refusal; and the steps are decoded unless it refused
 pub record Decoded (ends : Ends) (xs : List ℤ) (words bits : List ℕ) (answer : Outcome ℤ) (words' bits' : List ℕ) : Type 0 where
   pub metric : ℤ
-  pub answer-is : answer ≡ outcome (decoder_refusal (steps xs) (length words) (length bits)) metric
-  pub buffers-are : unless_refused (decoder_refusal (steps xs) (length words) (length bits)) (Accepted ends xs (steps xs) words bits metric words' bits') (Untouched words bits words' bits')
+  pub answer_is : answer ≡ outcome (decoder_refusal (steps xs) (length words) (length bits)) metric
+  pub buffers_are : unless_refused (decoder_refusal (steps xs) (length words) (length bits)) (Accepted ends xs (steps xs) words bits metric words' bits') (Untouched words bits words' bits')
 
 -- every end, or state 0 alone
 abbrev pub ends_of : Bool → Ends

@@ -11,7 +11,7 @@ pub record Decodes (ends : Ends) (xs : List ℤ) (n : ℕ) (bits : List ℕ) (me
   pub bits_are : bits ≡ reverse (map bit_n path)
   pub total : ℤ
   pub subtracted : Subtracted xs n total
-  pub metric-is : metric ≡ score_of xs start path -ℤ total
+  pub metric_is : metric ≡ score_of xs start path -ℤ total
 
 -- the words of n steps' choices
 pub record ChoiceWords (xs : List ℤ) (n : ℕ) (words : List ℕ) : Type 0 where

@@ -14,7 +14,7 @@ use Rattle.fec_viterbi.specs.Result.{Decodes}
 pub record MostLikely (ends : Ends) (xs : List ℤ) (n : ℕ) (bits : List ℕ) : Type 0 where
   pub start : ℕ
   pub path : List Bool
-  pub start-lt : start < 64
+  pub start_lt : start < 64
   pub long : length path ≡ n
   pub permitted : Permits ends (end_of start path)
   pub bits_are : bits ≡ reverse (map bit_n path)
@@ -28,7 +28,7 @@ DecodedIsMost =
 
 -- two results of one call
 pub record SameDecoding (r : Decoding) (words bits : List ℕ) (r' : Decoding) (words' bits' : List ℕ) : Type 0 where
-  pub answer-is : r ≡ r'
+  pub answer_is : r ≡ r'
   pub words_are : words ≡ words'
   pub bits_are : bits ≡ bits'
 

@@ -1,4 +1,6 @@
 // Viterbi decoding of the mother code, rate 1/4, 64 states: bits of the path that no permitted path beats.
+#![tactic(auto)]
+
 ghost use Rattle.std.specs.Prelude.{◌≡◌, ℕ, ◌+◌, ◌*◌, ◌/◌, ◌%◌, ◌^◌, ◌<◌, ◌≤◌, min, length, nat_abs, ◌+ℤ◌, ◌-ℤ◌};
 ghost use Rattle.std.specs.Int.Signed.{lt_z};
 ghost use Rattle.laws.specs.Integers.{at, pick_z};
@@ -12,13 +14,13 @@ ghost use Rattle.fec_viterbi.specs.Decoders.{ends_of, decoded_as, Accepted, Deco
 use refusal::Refusal;
 
 // What a decode gives beside its bits: the best path's score less all that was subtracted.
-#[derive(Drop)]
+#[derive(Clone, Copy)]
 pub struct Score {
     pub metric: i32,
 }
 
 // Done, or turned away by document 01's number: 11, then 8.
-#[derive(Drop)]
+#[derive(Clone, Copy)]
 pub enum Decoding {
     Done(Score),
     Refused(Refusal),
