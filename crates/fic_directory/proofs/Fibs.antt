@@ -2,9 +2,9 @@
 -- Assumes nothing.
 use mathlib.Core.Path.{◌≡◌, refl, sym, ap, ◌∙◌, subst}
 use mathlib.Core.Bool.{Bool, true, false, cond}
-use mathlib.Core.List.{List, [], ◌∷◌, ◌++◌}
+use mathlib.Core.List.{List, [], ◌∷◌}
 use mathlib.Core.Option.{Option, none, some}
-use Prim.Native.Nat.{ℕ, zero, suc, ◌+◌, ◌*◌, ◌-◌, ◌/◌, ◌<◌, ◌≤◌, ◌^◌}
+use Prim.Native.Nat.{ℕ, suc, ◌+◌, ◌*◌, ◌-◌, ◌/◌, ◌<◌, ◌≤◌, ◌^◌}
 use native.Mathlib.Omega.{arith}
 use borrow.Author.Tests.{ne_eqb, eqb-true}
 use lib.Dec.{eqb}
@@ -13,9 +13,9 @@ use lib.Seq.{drop-drop, take-take}
 use Rattle.laws.specs.Words.{pick_n}
 use Rattle.laws.proofs.Slices.{size_of_part}
 use Rattle.spec_en300401.specs.Fib.{Field, field_from, field_of, fib_bytes}
-use Rattle.spec_en300401.specs.Organisation.{Entry, entries_of, entries_of_all}
+use Rattle.spec_en300401.specs.Organisation.{entries_of, entries_of_all}
 use Rattle.spec_en300401.specs.Directory.{fibs_in, counted, broken_fibs, Broken, or_broken, first_broken}
-use Rattle.fic_directory_places.specs.Places.{Held, held}
+use Rattle.fic_directory_places.specs.Places.{Held}
 use Rattle.fic_directory.specs.declared.Reading.{Reading}
 use Rattle.fic_directory.specs.Promises.{Entered, entered, put_all, fibs_of, entries_of_fibs, read_into, reading_of}
 use Rattle.fic_directory.specs.Code.{figs_from, FieldDone, Few, noted_by, no_reading, AllRead}
@@ -36,8 +36,8 @@ first_or r later = cond (eqb r.broken 0) later (first_in r)
 pub record Going (bytes : List ℕ) (old now : Held) (r : Reading) (at : ℕ) : Type 0 where
   pub inside : at ≤ length bytes
   pub count : at ≡ 32 * r.fibs
-  pub broken-few : r.broken ≤ r.fibs
-  pub left-few : r.left_out ≤ 30 * r.fibs
+  pub broken_few : r.broken ≤ r.fibs
+  pub left_few : r.left_out ≤ 30 * r.fibs
   pub puts : put_all (entries_of_fibs (fibs_of bytes)) (entered old 0) ≡ put_all (entries_of_fibs (fibs_from at bytes)) (entered now r.left_out)
   pub brokens : broken_fibs (fibs_of bytes) ≡ r.broken + broken_fibs (fibs_from at bytes)
   pub first : first_broken 0 (fibs_of bytes) ≡ first_or r (first_broken r.fibs (fibs_from at bytes))
@@ -49,8 +49,8 @@ begin bytes h =
     record {
       inside = omega arith;
       count = refl;
-      broken-few = omega arith;
-      left-few = omega arith;
+      broken_few = omega arith;
+      left_few = omega arith;
       puts = ap (λ (fs : List (List ℕ)). put_all (entries_of_fibs fs) (entered h 0)) all;
       brokens = ap broken_fibs all ∙ omega arith;
       first = ap (first_broken 0) all;
@@ -104,7 +104,7 @@ module _ {bytes : List ℕ} {old now : Held} {r : Reading} {at : ℕ} (v : Going
   field-few new e left h d = omega (arith, d.few, length-take (at + 30 - at) (drop at bytes))
 
   pub few : (new : Held) (e : Option ℕ) (left : ℕ) → 32 ≤ length bytes - at → length bytes < 2 ^ 64 → FieldDone (take (at + 30 - at) (drop at bytes)) now e left new → Few r left
-  few new e left h m d = record { fibs-few = omega (arith, v.count, v.inside); broken-few = v.broken-few; left-few = v.left-few; one-few = field-few new e left h d }
+  few new e left h m d = record { fibs_few = omega (arith, v.count, v.inside); broken_few = v.broken_few; left_few = v.left_few; one_few = field-few new e left h d }
 
   pub next : (new : Held) (e : Option ℕ) (left : ℕ) (r' : Reading) → 32 ≤ length bytes - at → FieldDone (take (at + 30 - at) (drop at bytes)) now e left new → r' ≡ noted_by r e left → Going bytes old new r' (at + 32)
   unfolding entries_of_fibs broken_fibs first_broken entries_of
@@ -117,15 +117,15 @@ module _ {bytes : List ℕ} {old now : Held} {r : Reading} {at : ℕ} (v : Going
       f = field_of (take 32 (drop at bytes))
 
       ended : e ≡ (field_of (take 32 (drop at bytes))).broken
-      ended = d.broken-is ∙ ap (λ (g : Field). g.broken) (sym (field_is bytes at h))
+      ended = d.broken_is ∙ ap (λ (g : Field). g.broken) (sym (field_is bytes at h))
 
       go : ((noted_by r e left).fibs ≡ r.fibs + 1) × ((noted_by r e left).broken ≡ r.broken + counted e) × ((noted_by r e left).left_out ≡ r.left_out + left) → Going bytes old new (noted_by r e left) (at + 32)
       go k =
           record {
             inside = omega arith;
             count = omega (arith, v.count, k.0);
-            broken-few = omega (arith, v.broken-few, k.0, k.1, counted-one e);
-            left-few = omega (arith, v.left-few, k.0, k.2, field-few new e left h d);
+            broken_few = omega (arith, v.broken_few, k.0, k.1, counted-one e);
+            left_few = omega (arith, v.left_few, k.0, k.2, field-few new e left h d);
             puts =
                 v.puts ∙ ap (λ (fs : List (List ℕ)). put_all (entries_of_fibs fs) (entered now r.left_out)) (one_more bytes at h)
                 ∙ all_append (entries_of (take 32 (drop at bytes))) (entries_of_fibs (fibs_from (at + 32) bytes)) (entered now r.left_out)
@@ -152,11 +152,11 @@ module _ {bytes : List ℕ} {old now : Held} {r : Reading} {at : ℕ} (v : Going
       let n : (length bytes - at) / 32 ≡ 0 = omega arith in
       let no : fibs_from at bytes ≡ [] = ap (λ (k : ℕ). fibs_in k (drop at bytes)) n in
       let all : read_into bytes old ≡ entered now r.left_out = v.puts ∙ ap (λ (fs : List (List ℕ)). put_all (entries_of_fibs fs) (entered now r.left_out)) no in
-      let fibs-are : r.fibs ≡ length bytes / 32 = omega (arith, v.count, v.inside) in
+      let fibs_are : r.fibs ≡ length bytes / 32 = omega (arith, v.count, v.inside) in
       let brokens_are : r.broken ≡ broken_fibs (fibs_of bytes) = (omega arith) ∙ sym (v.brokens ∙ ap (λ (fs : List (List ℕ)). r.broken + broken_fibs fs) no) in
       let first-is : first_in r ≡ first_broken 0 (fibs_of bytes) = sym (v.first ∙ ap (λ (fs : List (List ℕ)). first_or r (first_broken r.fibs fs)) no ∙ last (eqb r.broken 0) refl) in
       record {
-        reading = (λ i. reading (fibs-are i) (brokens_are i) (first-is i).fib (first-is i).offset (sym all i).left_out);
+        reading = (λ i. reading (fibs_are i) (brokens_are i) (first-is i).fib (first-is i).offset (sym all i).left_out);
         numbers = sym (ap (λ (e : Entered). e.numbers) all);
       }
     where

@@ -1,9 +1,9 @@
 -- A FIG's entries by its type and extension, and a FIB's data field FIG by FIG.
 -- Assumes nothing.
 use mathlib.Core.Path.{◌≡◌, refl, sym, ap, ◌∙◌, subst}
-use mathlib.Core.Bool.{Bool, true, false, cond}
+use mathlib.Core.Bool.{cond}
 use mathlib.Core.List.{List, [], ◌∷◌, ◌++◌}
-use mathlib.Core.Option.{Option, none, some}
+use mathlib.Core.Option.{none, some}
 use Prim.Native.Nat.{ℕ, zero, suc, ◌+◌, ◌-◌, ◌/◌, ◌%◌, ◌<◌, ◌≤◌}
 use native.Mathlib.Omega.{arith}
 use native.Mathlib.Nat.{add_assoc}
@@ -13,7 +13,7 @@ use lib.ListN.{length, get_or, take, drop, length-take, length-drop, drop_of_len
 use lib.Seq.{drop-cons, drop-drop}
 use Rattle.laws.proofs.Slices.{tail_part}
 use Rattle.spec_en300401.specs.Fib.{Fig, Field, field_from, field_end, broken_at, before as with-fig, end_marker, type_in, length_in}
-use Rattle.spec_en300401.specs.Organisation.{Entry, sub_channels, services_in, extended, type_zero, entries_in, entries_of_all}
+use Rattle.spec_en300401.specs.Organisation.{Entry, sub_channels, extended, type_zero, entries_in, entries_of_all}
 use Rattle.fic_directory_places.specs.Places.{Held, held}
 use Rattle.fic_directory.specs.Promises.{Entered, entered, put, put_all}
 use Rattle.fic_directory.specs.Code.{SubsRead, services, ServicesRead, FigRead, figs_from, FieldDone}
@@ -162,7 +162,7 @@ unfolding put_all entries_of_all
 over {field} {old} {now} {left} {at} f w none_left e =
     record {
       few = omega (arith, w.few, w.inside);
-      broken-is = sym (ap (λ (g : Field). g.broken) e) ∙ w.broken_same;
+      broken_is = sym (ap (λ (g : Field). g.broken) e) ∙ w.broken_same;
       puts = λ n. w.puts n ∙ ap (λ (gs : List Fig). put_all (entries_of_all gs) (entered now (n + left))) (ap (λ (g : Field). g.figs) e ∙ none_left);
     }
 

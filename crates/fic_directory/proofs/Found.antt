@@ -1,7 +1,7 @@
 -- Where a service goes: the code's tests of a place's first number, and the lowest place that passes one.
 -- Assumes nothing.
 use mathlib.Core.Path.{◌≡◌, refl, sym, ap, ◌∙◌, subst}
-use mathlib.Core.Bool.{Bool, true, false, cond, ◌&&◌}
+use mathlib.Core.Bool.{Bool, true, false, cond}
 use mathlib.Core.List.{List, [], ◌∷◌}
 use mathlib.Core.Option.{Option, none, some}
 use Prim.Native.Nat.{ℕ, zero, suc, ◌+◌, ◌*◌, ◌/◌, ◌%◌, ◌^◌, ◌<◌, ◌≤◌}
@@ -12,10 +12,9 @@ use lib.Dec.{eqb}
 use lib.ListN.{length, get_or, drop, drop_of_length-le}
 use lib.Seq.{drop-cons}
 use Rattle.laws.specs.Words.{pick_n}
-use Rattle.laws.specs.Lists.{list_of}
 use Rattle.laws.proofs.Lists.{length-list_of, list_of-at}
 use Rattle.spec_en300401.specs.Organisation.{Service}
-use Rattle.spec_en300401.specs.Directory.{places, same_flag, is_service, is_free_place, first_place, or_first, place_for}
+use Rattle.spec_en300401.specs.Directory.{places, is_service, is_free_place, first_place, or_first, place_for}
 use Rattle.fic_directory_places.specs.Places.{service_at, services_of}
 use Rattle.fic_directory.specs.Code.{sid_key, marked, place_number, OwnPlace, FreePlace, PlaceFor}
 

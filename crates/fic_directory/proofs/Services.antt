@@ -1,22 +1,20 @@
 -- FIG 0/2 entry by entry: its length, its identifier, its components, and that entering it moves on to the rest.
 -- Assumes nothing.
-use mathlib.Core.Path.{◌≡◌, refl, sym, ap, ◌∙◌, subst}
+use mathlib.Core.Path.{◌≡◌, refl, sym, ap, ◌∙◌}
 use mathlib.Core.Bool.{Bool, true, false, cond}
 use mathlib.Core.List.{List, [], ◌∷◌}
-use mathlib.Core.Option.{Option, none, some}
-use Prim.Native.Nat.{ℕ, zero, suc, ◌+◌, ◌*◌, ◌-◌, ◌/◌, ◌%◌, ◌^◌, ◌<◌, ◌≤◌}
+use mathlib.Core.Option.{Option}
+use Prim.Native.Nat.{ℕ, zero, suc, ◌+◌, ◌*◌, ◌-◌, ◌%◌, ◌^◌, ◌<◌, ◌≤◌}
 use native.Mathlib.Omega.{arith}
-use native.Mathlib.Numerals.{add-one}
 use borrow.Author.Tests.{lt-ltb, le-ltb, ltb-true, ltb-false}
 use lib.Dec.{ltb}
 use lib.ListN.{length, get_or, set, take, drop, length-take, length-drop}
 use lib.Seq.{sets, drop-length}
 use Rattle.laws.specs.Words.{pick_n}
-use Rattle.spec_en300401.specs.Organisation.{Service, Entry, service, number_of, pairs_of, sid_bytes, component_bytes, entry_bytes, service_in, services_in}
-use Rattle.spec_en300401.specs.Directory.{place_for}
-use Rattle.fic_directory_places.specs.Places.{held, service_head, component_word, service_words, services_of}
+use Rattle.spec_en300401.specs.Organisation.{Entry, service, number_of, pairs_of, sid_bytes, component_bytes, entry_bytes, service_in, services_in}
+use Rattle.fic_directory_places.specs.Places.{held, service_head, component_word, service_words}
 use Rattle.fic_directory.specs.Promises.{entered, put_at, put, put_all}
-use Rattle.fic_directory.specs.Code.{entry_length, Whole, sid_key, KeyIs, services, place_number, PlaceFor, Written, ServicePut, ServiceEntered}
+use Rattle.fic_directory.specs.Code.{entry_length, Whole, sid_key, KeyIs, services, PlaceFor, Written, ServicePut, ServiceEntered}
 use Rattle.fic_directory.proofs.Found.{place_some, place_none}
 
 -- ---- an entry's length
@@ -116,9 +114,9 @@ module _ (wide : Bool) (rest : List ℕ) (h f : ℕ) (e : h ≡ sid_bytes wide) 
       let n : h + 1 + 2 * f - (h + 1) ≡ component_bytes wide rest = (omega arith) ∙ ap (λ (m : ℕ). 2 * m) (g ∙ ap (λ (m : ℕ). get_or rest m 0 % 16) e) in
       (λ i. take (n i) (drop (e i + 1) rest))
 
-  count-is : Whole wide rest → f ≡ length (service_in wide rest).components
+  count_is : Whole wide rest → f ≡ length (service_in wide rest).components
   unfolding service_in
-  count-is w =
+  count_is w =
       let n : f ≡ get_or rest (sid_bytes wide) 0 % 16 = g ∙ ap (λ (m : ℕ). get_or rest m 0 % 16) e in
       n ∙ sym (length_pairs (get_or rest (sid_bytes wide) 0 % 16) (take (component_bytes wide rest) (drop (sid_bytes wide + 1) rest)) (simp (length-take, length-drop) (omega (arith, w.all))))
 
@@ -130,7 +128,7 @@ module _ (wide : Bool) (rest : List ℕ) (h f : ℕ) (e : h ≡ sid_bytes wide) 
   written key place before w0 w1 w2 w k e0 e1 e2 =
       let cs : pairs_of (take (h + 1 + 2 * f - (h + 1)) (drop (h + 1) rest)) ≡ (service_in wide rest).components = ap pairs_of words_are in
       let s = service_in wide rest in
-      let first : key + f * 1099511627776 + 281474976710656 ≡ s.sid + pick_n wide 1 0 * 2 ^ 32 + length s.components * 2 ^ 40 + 2 ^ 48 = (λ i. k i + count-is w i * 1099511627776 + 281474976710656) in
+      let first : key + f * 1099511627776 + 281474976710656 ≡ s.sid + pick_n wide 1 0 * 2 ^ 32 + length s.components * 2 ^ 40 + 2 ^ 48 = (λ i. k i + count_is w i * 1099511627776 + 281474976710656) in
       record {
         numbers =
             four_sets before (4 * place) (key + f * 1099511627776 + 281474976710656) w0 w1 w2

@@ -1,24 +1,22 @@
 -- FIG 0/1 entry by entry: what the first bytes of what is left say, and that entering it moves on to the rest.
 -- Assumes nothing.
 use mathlib.Core.Path.{◌≡◌, refl, sym, ap, ◌∙◌}
-use mathlib.Core.Bool.{Bool, true, false, cond}
-use mathlib.Core.List.{List, [], ◌∷◌, ◌++◌}
-use Prim.Native.Nat.{ℕ, zero, suc, ◌+◌, ◌<◌, ◌≤◌}
+use mathlib.Core.List.{List, [], ◌∷◌}
+use Prim.Native.Nat.{ℕ, ◌<◌, ◌≤◌}
 use native.Mathlib.Omega.{arith}
 use borrow.Author.Tests.{lt-ltb, le-ltb}
-use lib.Dec.{ltb}
 use lib.ListN.{length, get_or, set, drop}
 use lib.Seq.{drop-length}
-use Rattle.spec_en300401.specs.Organisation.{SubChannel, Entry, sub-channel, sub_ch_id, short_form, long_form, sub_channels}
+use Rattle.spec_en300401.specs.Organisation.{SubChannel, Entry, sub_channel, sub_ch_id, short_form, long_form, sub_channels}
 use Rattle.fic_directory_places.specs.Places.{sub_word, held}
 use Rattle.fic_directory.specs.Promises.{entered, put, put_all}
 use Rattle.fic_directory.specs.Code.{SubEntered}
 
 abbrev short-at : List ℕ → Entry
-short-at xs = sub-channel (sub_ch_id (get_or xs 0 0)) (short_form (get_or xs 0 0) (get_or xs 1 0) (get_or xs 2 0))
+short-at xs = sub_channel (sub_ch_id (get_or xs 0 0)) (short_form (get_or xs 0 0) (get_or xs 1 0) (get_or xs 2 0))
 
 abbrev long-at : List ℕ → Entry
-long-at xs = sub-channel (sub_ch_id (get_or xs 0 0)) (long_form (get_or xs 0 0) (get_or xs 1 0) (get_or xs 2 0) (get_or xs 3 0))
+long-at xs = sub_channel (sub_ch_id (get_or xs 0 0)) (long_form (get_or xs 0 0) (get_or xs 1 0) (get_or xs 2 0) (get_or xs 3 0))
 
 -- fewer than three bytes are no entry
 cut : (xs : List ℕ) → length xs < 3 → sub_channels xs ≡ []
@@ -80,7 +78,7 @@ module _ (rest before : List ℕ) where
   done_switched h k l =
       record { some_done = omega arith; within = h; puts = λ services n. ap (λ (es : List Entry). put_all es (entered (held before services) n)) (switched rest h k l) }
 
-  one : (r id w : ℕ) (c : SubChannel) → 0 < r → r ≤ length rest → sub_channels rest ≡ sub-channel (sub_ch_id (get_or rest 0 0)) c ∷ sub_channels (drop r rest) → id ≡ sub_ch_id (get_or rest 0 0) → w ≡ sub_word c → SubEntered rest before r (set before id w)
+  one : (r id w : ℕ) (c : SubChannel) → 0 < r → r ≤ length rest → sub_channels rest ≡ sub_channel (sub_ch_id (get_or rest 0 0)) c ∷ sub_channels (drop r rest) → id ≡ sub_ch_id (get_or rest 0 0) → w ≡ sub_word c → SubEntered rest before r (set before id w)
   unfolding put put_all
   one r id w c h l e f g =
       record {

@@ -1,5 +1,5 @@
 -- What the private functions of the crate ask and promise: the code's own terms, over the standard's definitions.
-use Rattle.std.specs.Prelude.{◌≡◌, Bool, cond, List, [], ◌∷◌, ℕ, zero, suc, ◌+◌, ◌*◌, ◌/◌, ◌%◌, ◌^◌, ◌<◌, ◌≤◌, eqb, ltb, length, get_or, take, drop}
+use Rattle.std.specs.Prelude.{◌≡◌, Bool, cond, List, [], ◌∷◌, ℕ, ◌+◌, ◌*◌, ◌/◌, ◌%◌, ◌^◌, ◌<◌, ◌≤◌, eqb, ltb, length, get_or, drop}
 use Rattle.std.proofs.Math.Option.{Option, none, some}
 use Rattle.std.proofs.lemmas.List.Edits.{sets}
 use Rattle.laws.specs.Words.{pick_n}
@@ -122,15 +122,15 @@ figs_from at field = field_from (length field) at (drop at field)
 -- the entries of a field's FIGs are entered
 pub record FieldDone (field : List ℕ) (before : Held) (ended : Option ℕ) (r : ℕ) (after : Held) : Type 0 where
   pub few : r ≤ length field
-  pub broken-is : ended ≡ (figs_from 0 field).broken
+  pub broken_is : ended ≡ (figs_from 0 field).broken
   pub puts : (n : ℕ) → put_all (entries_of_all (figs_from 0 field).figs) (entered before n) ≡ entered after (n + r)
 
 -- what was read so far is so little that one FIB more overflows nothing
 pub record Few (r : Reading) (left : ℕ) : Type 0 where
-  pub fibs-few : r.fibs < 2 ^ 59
-  pub broken-few : r.broken ≤ r.fibs
-  pub left-few : r.left_out ≤ 30 * r.fibs
-  pub one-few : left ≤ 30
+  pub fibs_few : r.fibs < 2 ^ 59
+  pub broken_few : r.broken ≤ r.fibs
+  pub left_few : r.left_out ≤ 30 * r.fibs
+  pub one_few : left ≤ 30
 
 -- one FIB more
 unfoldable pub noted_by : Reading → Option ℕ → ℕ → Reading

@@ -1,11 +1,11 @@
 -- Document 02, order 1: what reading FIBs into a directory answers, and what every number of the caller's holds after it.
-use Rattle.std.specs.Prelude.{◌≡◌, List, [], ◌∷◌, ◌++◌, ℕ, zero, suc, ◌+◌, ◌*◌, ◌/◌, length, set}
+use Rattle.std.specs.Prelude.{◌≡◌, List, [], ◌∷◌, ◌++◌, ℕ, ◌+◌, ◌*◌, ◌/◌, length, set}
 use Rattle.std.proofs.Math.Option.{Option, none, some}
 use Rattle.std.proofs.lemmas.List.Edits.{sets}
 use Rattle.refusal.specs.Outcome.{Outcome, gives, refuses, outcome, unless_refused}
 use Rattle.spec_en300401.specs.Fib.{fib_bytes}
-use Rattle.spec_en300401.specs.Organisation.{Service, Entry, sub-channel, service, entries_of}
-use Rattle.spec_en300401.specs.Directory.{place_for, fibs_in, broken_fibs, Broken, first_broken}
+use Rattle.spec_en300401.specs.Organisation.{Service, Entry, sub_channel, service, entries_of}
+use Rattle.spec_en300401.specs.Directory.{place_for, fibs_in, broken_fibs, first_broken}
 use Rattle.fic_directory_places.specs.Places.{sub_word, service_words, services_of, Held, held}
 use Rattle.fic_directory_places.specs.Promises.{directory_refusal}
 use Rattle.fic_directory.specs.declared.Reading.{Reading}
@@ -15,19 +15,19 @@ use Rattle.fic_directory.specs.declared.ReadAnswer.TheVariants.{Done, «Refused�
 -- the numbers, and how many entries of services were left out on the way to them
 pub record Entered : Type 0 where
   pub numbers : Held
-  pub left-out : ℕ
+  pub left_out : ℕ
 
 abbrev pub entered : Held → ℕ → Entered
-entered h n = record { numbers = h; left-out = n }
+entered h n = record { numbers = h; left_out = n }
 
 -- a service put in its place; left out where there is none
 abbrev pub put_at : Option ℕ → Service → Entered → Entered
-put_at none s e = entered e.numbers (e.left-out + 1)
-put_at (some p) s e = entered (held e.numbers.subs (sets e.numbers.services (4 * p) (service_words s (length s.components)))) e.left-out
+put_at none s e = entered e.numbers (e.left_out + 1)
+put_at (some p) s e = entered (held e.numbers.subs (sets e.numbers.services (4 * p) (service_words s (length s.components)))) e.left_out
 
 -- one entry: its own numbers are written anew, and all others are as they were
 unfoldable pub put : Entry → Entered → Entered
-put (sub-channel id c) e = entered (held (set e.numbers.subs id (sub_word c)) e.numbers.services) e.left-out
+put (sub_channel id c) e = entered (held (set e.numbers.subs id (sub_word c)) e.numbers.services) e.left_out
 put (service s) e = put_at (place_for s (services_of e.numbers.services)) s e
 
 unfoldable pub put_all : List Entry → Entered → Entered
@@ -53,7 +53,7 @@ reading_of bytes h =
       broken = broken_fibs (fibs_of bytes);
       first_fib = (first_broken 0 (fibs_of bytes)).fib;
       first_offset = (first_broken 0 (fibs_of bytes)).offset;
-      left_out = (read_into bytes h).left-out;
+      left_out = (read_into bytes h).left_out;
     }
 
 abbrev pub read_as : ReadAnswer → Outcome Reading

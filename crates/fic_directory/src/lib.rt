@@ -1,4 +1,6 @@
 // The station list (document 02, order 1): FIBs, as the FIC handler writes them, read into a directory that the caller holds in numbers.
+#![tactic(auto)]
+
 ghost use Rattle.std.specs.Prelude.{◌≡◌, ◌+◌, ◌*◌, ◌/◌, ◌%◌, ◌^◌, ◌<◌, ◌≤◌, eqb, length, get_or};
 ghost use Rattle.spec_en300401.specs.Fib.{length_in};
 ghost use Rattle.spec_en300401.specs.Organisation.{units_of, rate_of, start_in, short_form, long_form, pairs_of, sid_bytes, service_in};
@@ -10,7 +12,7 @@ use refusal::Refusal;
 
 // How many FIBs were read; how many ended at a FIG whose length passes the end, and of the first of these its number and the FIG's offset;
 // how many entries of services found no place.
-#[derive(Drop)]
+#[derive(Clone, Copy)]
 pub struct Reading {
     pub fibs: usize,
     pub broken: usize,
@@ -19,7 +21,7 @@ pub struct Reading {
     pub left_out: usize,
 }
 
-#[derive(Drop)]
+#[derive(Clone, Copy)]
 pub enum ReadAnswer {
     Done(Reading),
     Refused(Refusal),
@@ -329,7 +331,7 @@ fn put_service(rest: &[u8], wide: bool, services: &mut [u64]) -> usize
 }
 
 // What entering a service came to: bytes of its entry, and 1 where it was left out.
-#[derive(Drop)]
+#[derive(Clone, Copy)]
 struct Taken {
     bytes: usize,
     left_out: usize,
@@ -395,13 +397,13 @@ fn read_fig(kind: u8, body: &[u8], subs: &mut [u64], services: &mut [u64]) -> us
 }
 
 // How a FIB's data field ended: in order, or at a FIG that passes its end, by the offset of that FIG's header.
-#[derive(Drop)]
+#[derive(Clone, Copy)]
 enum Ended {
     InOrder,
     Broken(usize),
 }
 
-#[derive(Drop)]
+#[derive(Clone, Copy)]
 struct FieldRead {
     ended: Ended,
     left_out: usize,

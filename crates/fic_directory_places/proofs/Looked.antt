@@ -1,10 +1,10 @@
 -- What is looked up in a directory's numbers, by the place's mark.
 -- Assumes nothing.
 use mathlib.Core.Path.{◌≡◌, refl, sym, ap, ap₂, ◌∙◌, subst}
-use mathlib.Core.Bool.{Bool, true, false, cond, ◌&&◌}
-use mathlib.Core.List.{List, [], ◌∷◌, ◌++◌}
+use mathlib.Core.Bool.{Bool, true, false, cond}
+use mathlib.Core.List.{List, ◌∷◌, ◌++◌}
 use mathlib.Core.Option.{Option, none, some}
-use Prim.Native.Nat.{ℕ, zero, suc, ◌+◌, ◌*◌, ◌/◌, ◌%◌, ◌^◌, ◌-◌, ◌<◌, ◌≤◌, min}
+use Prim.Native.Nat.{ℕ, suc, ◌+◌, ◌*◌, ◌/◌, ◌%◌, ◌^◌, ◌-◌, ◌<◌, ◌≤◌, min}
 use native.Mathlib.Omega.{arith}
 use native.Mathlib.Nat.{div-one}
 use borrow.Author.Tests.{lt-ltb, le-ltb, eq-eqb, ne_eqb, ltb-true, ltb-false}
@@ -20,7 +20,6 @@ use Rattle.spec_en300401.specs.Directory.{places}
 use Rattle.fec_protection.specs.declared.Description.{Description}
 use Rattle.fic_directory_places.specs.declared.SubFound.{SubFound}
 use Rattle.fic_directory_places.specs.declared.SubFound.TheVariants.{«Is» as sub_is, «Absent» as sub-absent, «Refused» as sub-refused}
-use Rattle.fic_directory_places.specs.declared.ServiceFound.{ServiceFound}
 use Rattle.fic_directory_places.specs.declared.ServiceFound.TheVariants.{«Is» as service-is, «Absent» as service-absent, «Refused» as service-refused}
 use Rattle.fic_directory_places.specs.declared.ServiceAnswer.{ServiceAnswer}
 use Rattle.fic_directory_places.specs.declared.Identity.{Identity}
@@ -28,7 +27,7 @@ use Rattle.fic_directory_places.specs.declared.AudioFound.{AudioFound}
 use Rattle.fic_directory_places.specs.declared.AudioFound.TheVariants.{«Is» as audio-is, «Absent» as audio-absent, «Refused» as audio-refused}
 use Rattle.fic_directory_places.specs.Places.{field, flag_at, sub_in, subs_of, service_at, services_of, most_components}
 use Rattle.fic_directory_places.specs.Code.{fields_of, component_count, component_at, components_at, identity_in}
-use Rattle.fic_directory_places.specs.Promises.{subs_refusal, services_refusal, description_of, described, sub_found_as, SubPromise, identity_of, words_of, service_found_as, ServicePromise, audio_found_as, audio_of, AudioPromise}
+use Rattle.fic_directory_places.specs.Promises.{services_refusal, description_of, described, sub_found_as, SubPromise, identity_of, words_of, service_found_as, ServicePromise, audio_found_as, audio_of, AudioPromise}
 
 pub description-is : (w : ℕ) → record { start_addr = w % 65536; sub_size = w / 65536 % 65536; bitrate = w / 4294967296 % 65536; protection_level = w / 281474976710656 % 256; eep_option = w / 72057594037927936 % 16; is_eep = eqb (w / 1152921504606846976 % 2) 1 } ≡ description_of (fields_of w)
 description-is w = (λ i. record { start_addr = sym (div-one w) i % 65536; sub_size = w / 65536 % 65536; bitrate = w / 4294967296 % 65536; protection_level = w / 281474976710656 % 256; eep_option = w / 72057594037927936 % 16; is_eep = eqb (w / 1152921504606846976 % 2) 1 })

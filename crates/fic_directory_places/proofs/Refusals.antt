@@ -4,7 +4,6 @@ use mathlib.Core.Path.{◌≡◌, sym, ap, ◌∙◌}
 use mathlib.Core.List.{◌++◌}
 use Prim.Native.Nat.{ℕ, ◌<◌, ◌≤◌}
 use borrow.Author.Tests.{lt-ltb, le-ltb}
-use lib.Dec.{ltb}
 use lib.ListN.{length, replicate, drop}
 use Rattle.refusal.specs.Outcome.{outcome, unless_refused}
 use Rattle.fec_protection.specs.declared.Judged.TheVariants.{«Accepted» as judged-accepted, «Refused» as judged-refused}

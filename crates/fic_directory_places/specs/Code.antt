@@ -1,5 +1,5 @@
 -- What the private functions of the crate promise: the code's own terms.
-use Rattle.std.specs.Prelude.{ℕ, ◌+◌, ◌*◌, ◌/◌, ◌%◌, ◌^◌, min, List, get_or}
+use Rattle.std.specs.Prelude.{ℕ, ◌+◌, ◌*◌, ◌/◌, ◌%◌, min, List, get_or}
 use Rattle.spec_en300401.specs.Organisation.{SubChannel}
 use Rattle.fic_directory_places.specs.Places.{field, flag_at, most_components}
 use Rattle.fic_directory_places.specs.declared.Identity.{Identity}

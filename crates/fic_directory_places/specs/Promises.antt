@@ -1,5 +1,5 @@
 -- Document 02, order 1: refusal 12, what emptying a directory leaves of the caller's numbers, and what is at its places.
-use Rattle.std.specs.Prelude.{◌≡◌, Bool, false, List, [], ◌∷◌, ◌++◌, ℕ, ltb, length, get_or, replicate, take, drop}
+use Rattle.std.specs.Prelude.{◌≡◌, List, [], ◌∷◌, ◌++◌, ℕ, ltb, length, get_or, replicate, take, drop}
 use Rattle.std.proofs.Math.Option.{Option, none, some}
 use Rattle.refusal.specs.Outcome.{Outcome, gives, refuses, check, first_of, outcome, unless_refused}
 use Rattle.spec_en300401.specs.Organisation.{SubChannel, Service, audio_in}

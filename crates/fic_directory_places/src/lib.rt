@@ -1,4 +1,6 @@
 // A directory as the caller holds it (document 02, order 1): one number for a sub-channel, four for a service. Emptied, and looked up.
+#![tactic(auto)]
+
 ghost use Rattle.std.specs.Prelude.{◌≡◌, ◌++◌, ◌+◌, ◌*◌, ◌/◌, ◌%◌, ◌^◌, ◌<◌, ◌≤◌, length, replicate, take, drop};
 ghost use Rattle.refusal.specs.Outcome.{gives};
 ghost use Rattle.spec_en300401.specs.Organisation.{primary_audio, audio_in};
@@ -9,7 +11,7 @@ ghost use Rattle.fic_directory_places.specs.Promises.{description_of, EmptyPromi
 use fec_protection::{Description, Judged};
 use refusal::Refusal;
 
-#[derive(Drop)]
+#[derive(Clone, Copy)]
 pub enum SubFound {
     Is(Description),
     Absent,
@@ -17,14 +19,14 @@ pub enum SubFound {
 }
 
 // A service's identifier, of 32 bits where it is wide, and how many components it has.
-#[derive(Drop)]
+#[derive(Clone, Copy)]
 pub struct Identity {
     pub wide: bool,
     pub sid: u32,
     pub components: usize,
 }
 
-#[derive(Drop)]
+#[derive(Clone, Copy)]
 pub enum ServiceFound {
     Is(Identity),
     Absent,
@@ -32,14 +34,14 @@ pub enum ServiceFound {
 }
 
 // With the components' words as sent; 0 beyond them.
-#[derive(Drop)]
+#[derive(Clone, Copy)]
 pub struct ServiceAnswer {
     pub found: ServiceFound,
     pub words: [u16; 12],
 }
 
 // The SubChId of a service's primary audio component.
-#[derive(Drop)]
+#[derive(Clone, Copy)]
 pub enum AudioFound {
     Is(usize),
     Absent,

@@ -63,10 +63,10 @@ block_done values before after r q k h p b f =
       block = b.block;
       decodes = subst (λ (xs : List ℤ). Decodes zero_end xs 774 b.block.decoded b.block.metric) e b.decodes;
       chosen = subst (λ (xs : List ℤ). ChoiceWords xs 774 b.block.choices) e b.chosen;
-      count-is = f.kept-is ∙ ap (λ (xs : List ℕ). count_of xs 3) g;
-      quality-is = b.quality-is ∙ ap (quality_of b.block.metric) e;
-      depunctured-are = d;
+      count_is = f.kept_is ∙ ap (λ (xs : List ℕ). count_of xs 3) g;
+      quality_is = b.quality_is ∙ ap (quality_of b.block.metric) e;
+      depunctured_are = d;
       words_are = b.words_are;
       bits_are = b.bits_are;
-      fibs-are = f.bytes ∙ ap (λ (xs : List ℕ). passed_bytes xs 3 ++ drop (32 * k) before.fibs) g;
+      fibs_are = f.bytes ∙ ap (λ (xs : List ℕ). passed_bytes xs 3 ++ drop (32 * k) before.fibs) g;
     }

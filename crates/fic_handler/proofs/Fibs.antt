@@ -36,19 +36,19 @@ passed_length bits (suc n) e h =
     one false r = omega arith
 
 pub kept-lt : {bits before after : List ℕ} {k : ℕ} → KeptFib bits before k after → k < 2
-kept-lt {bits} v = omega (arith, v.kept-is, bit_lt (fib_valid bits))
+kept-lt {bits} v = omega (arith, v.kept_is, bit_lt (fib_valid bits))
 
 -- one FIB more: the part from byte 32 kept on has it at its start if it passed
 pub kept_next : {bits before after new : List ℕ} {j kept k : ℕ} → length bits ≡ 768 → j < 3 → KeptFibs bits j before kept after → KeptFib (fib_of bits j) (drop (32 * kept) after) k new → KeptFibs bits (j + 1) before (kept + k) (take (32 * kept) after ++ new)
 unfolding passed_bytes count_of
 kept_next {bits} {before} {after} {new} {j} {kept} {k} e h v w =
     record {
-      kept-is = ap₂ (λ (a b : ℕ). a + b) v.kept-is w.kept-is ∙ ap (count_of bits) (sym (add-one j));
-      bytes = ap₂ (λ (a b : List ℕ). a ++ b) front (w.bytes ∙ ap (λ (r : List ℕ). cond (good bits j) (bytes_of_bits (fib_of bits j) ++ drop 32 r) r) back) ∙ one (good bits j) w.kept-is ∙ ap (λ (n : ℕ). passed_bytes bits n ++ drop (32 * (kept + k)) before) (sym (add-one j));
+      kept_is = ap₂ (λ (a b : ℕ). a + b) v.kept_is w.kept_is ∙ ap (count_of bits) (sym (add-one j));
+      bytes = ap₂ (λ (a b : List ℕ). a ++ b) front (w.bytes ∙ ap (λ (r : List ℕ). cond (good bits j) (bytes_of_bits (fib_of bits j) ++ drop 32 r) r) back) ∙ one (good bits j) w.kept_is ∙ ap (λ (n : ℕ). passed_bytes bits n ++ drop (32 * (kept + k)) before) (sym (add-one j));
     }
   where
     long : length (passed_bytes bits j) ≡ 32 * kept
-    long = passed_length bits j e (omega arith) ∙ ap (λ (n : ℕ). 32 * n) (sym v.kept-is)
+    long = passed_length bits j e (omega arith) ∙ ap (λ (n : ℕ). 32 * n) (sym v.kept_is)
 
     front : take (32 * kept) after ≡ passed_bytes bits j
     front = ap (take (32 * kept)) v.bytes ∙ take_at (passed_bytes bits j) (drop (32 * kept) before) (32 * kept) long

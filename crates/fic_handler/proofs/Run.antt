@@ -90,12 +90,12 @@ pub record Run (xs : List ℤ) (before : Buffers) (n sum : ℕ) (counts : List �
   pub each : (b : ℕ) → b < n → IsBlock xs b (block b)
   pub sum_is : sum ≡ total block n
   pub few : sum ≤ 3 * n
-  pub counts-are : counts ≡ four n (λ (b : ℕ). count_of (data_bits (block b).decoded) 3) 0
+  pub counts_are : counts ≡ four n (λ (b : ℕ). count_of (data_bits (block b).decoded) 3) 0
   pub qualities_are : qualities ≡ four n (λ (b : ℕ). quality_of (block b).metric (depunctured_block xs b)) nothing
-  pub depunctured-are : after.depunctured ≡ (work_after xs block n before).depunctured
+  pub depunctured_are : after.depunctured ≡ (work_after xs block n before).depunctured
   pub words_are : after.words ≡ (work_after xs block n before).words
   pub bits_are : after.bits ≡ (work_after xs block n before).bits
-  pub fibs-are : after.fibs ≡ written block n ++ drop (32 * sum) before.fibs
+  pub fibs_are : after.fibs ≡ written block n ++ drop (32 * sum) before.fibs
 
 pub run_none : (xs : List ℤ) (before : Buffers) (counts : List ℕ) (qualities : List Quality) → counts ≡ four 0 (λ (b : ℕ). 0) 0 → qualities ≡ four 0 (λ (b : ℕ). nothing) nothing → Run xs before 0 0 counts qualities before
 unfolding total written work_after list_from
@@ -105,12 +105,12 @@ run_none xs before counts qualities c q =
       each = λ b l. absurd (not-suc-le-zero l);
       sum_is = refl;
       few = omega arith;
-      counts-are = c;
+      counts_are = c;
       qualities_are = q;
-      depunctured-are = refl;
+      depunctured_are = refl;
       words_are = refl;
       bits_are = refl;
-      fibs-are = refl;
+      fibs_are = refl;
     }
 
 -- what lies behind a block's own values, choices and bits is as it was before the first
@@ -164,12 +164,12 @@ module _ (xs : List ℤ) (before : Buffers) (n sum count : ℕ) (counts : List �
       go (yes e) = subst (λ (m : ℕ). IsBlock xs m (blocks m)) (sym e) (subst (IsBlock xs n) (sym last) this)
       go (no e) = let g : b < n = omega arith in subst (IsBlock xs b) (earlier b g) (r.each b g)
 
-  count-is : count ≡ count_of (data_bits (blocks n).decoded) 3
-  count-is = p.count-is ∙ ap (λ (k : Block). count_of (data_bits k.decoded) 3) (sym last)
+  count_is : count ≡ count_of (data_bits (blocks n).decoded) 3
+  count_is = p.count_is ∙ ap (λ (k : Block). count_of (data_bits k.decoded) 3) (sym last)
 
   sum_next : sum + count ≡ total blocks (n + 1)
   unfolding total
-  sum_next = ap₂ (λ (a b : ℕ). a + b) (r.sum_is ∙ total_ext r.block blocks n earlier) count-is ∙ ap (total blocks) (sym (add-one n))
+  sum_next = ap₂ (λ (a b : ℕ). a + b) (r.sum_is ∙ total_ext r.block blocks n earlier) count_is ∙ ap (total blocks) (sym (add-one n))
 
   next_written : written blocks (n + 1) ≡ written r.block n ++ passed_bytes (data_bits p.block.decoded) 3
   unfolding written
@@ -179,17 +179,17 @@ module _ (xs : List ℤ) (before : Buffers) (n sum count : ℕ) (counts : List �
   long = written-length r.block n r.each ∙ ap (λ (m : ℕ). 32 * m) (sym r.sum_is)
 
   front : take (32 * sum) after.fibs ≡ written r.block n
-  front = ap (take (32 * sum)) r.fibs-are ∙ take_at (written r.block n) (drop (32 * sum) before.fibs) (32 * sum) long
+  front = ap (take (32 * sum)) r.fibs_are ∙ take_at (written r.block n) (drop (32 * sum) before.fibs) (32 * sum) long
 
   back : drop (32 * sum) after.fibs ≡ drop (32 * sum) before.fibs
-  back = ap (drop (32 * sum)) r.fibs-are ∙ drop_at (written r.block n) (drop (32 * sum) before.fibs) (32 * sum) long
+  back = ap (drop (32 * sum)) r.fibs_are ∙ drop_at (written r.block n) (drop (32 * sum) before.fibs) (32 * sum) long
 
   at_end : 32 * sum + 32 * count ≡ 32 * (sum + count)
   at_end = omega arith
 
   next_fibs : take (32 * sum) after.fibs ++ new.fibs ≡ written blocks (n + 1) ++ drop (32 * (sum + count)) before.fibs
   next_fibs =
-      ap₂ (λ (a b : List ℕ). a ++ b) front (p.fibs-are ∙ ap (λ (l : List ℕ). passed_bytes (data_bits p.block.decoded) 3 ++ drop (32 * count) l) back)
+      ap₂ (λ (a b : List ℕ). a ++ b) front (p.fibs_are ∙ ap (λ (l : List ℕ). passed_bytes (data_bits p.block.decoded) 3 ++ drop (32 * count) l) back)
       ∙ sym (append_assoc (written r.block n) (passed_bytes (data_bits p.block.decoded) 3) (drop (32 * count) (drop (32 * sum) before.fibs)))
       ∙ ap₂ (λ (a b : List ℕ). a ++ b) (sym next_written) (drop-drop (32 * count) (32 * sum) before.fibs ∙ ap (λ (m : ℕ). drop m before.fibs) at_end)
 
@@ -200,15 +200,15 @@ module _ (xs : List ℤ) (before : Buffers) (n sum count : ℕ) (counts : List �
         block = blocks;
         each = every;
         sum_is = sum_next;
-        few = omega (arith, r.few, p.count-is, count-le (data_bits p.block.decoded) 3);
-        counts-are =
-            four_next 0 n (λ (b : ℕ). count_of (data_bits (r.block b).decoded) 3) (λ (b : ℕ). count_of (data_bits (blocks b).decoded) 3) 0 count counts h r.counts-are
-            (λ i l. ap (λ (k : Block). count_of (data_bits k.decoded) 3) (earlier i l)) count-is;
+        few = omega (arith, r.few, p.count_is, count-le (data_bits p.block.decoded) 3);
+        counts_are =
+            four_next 0 n (λ (b : ℕ). count_of (data_bits (r.block b).decoded) 3) (λ (b : ℕ). count_of (data_bits (blocks b).decoded) 3) 0 count counts h r.counts_are
+            (λ i l. ap (λ (k : Block). count_of (data_bits k.decoded) 3) (earlier i l)) count_is;
         qualities_are =
             four_next nothing n (λ (b : ℕ). quality_of (r.block b).metric (depunctured_block xs b)) (λ (b : ℕ). quality_of (blocks b).metric (depunctured_block xs b)) nothing q qualities h r.qualities_are
-            (λ i l. ap (λ (k : Block). quality_of k.metric (depunctured_block xs i)) (earlier i l)) (p.quality-is ∙ ap (λ (k : Block). quality_of k.metric (depunctured_block xs n)) (sym last));
-        depunctured-are =
-            p.depunctured-are ∙ ap (λ (l : List ℤ). depunctured_block xs n ++ l) (ap (drop 3096) r.depunctured-are ∙ rest_depunctured xs r.block n before)
+            (λ i l. ap (λ (k : Block). quality_of k.metric (depunctured_block xs i)) (earlier i l)) (p.quality_is ∙ ap (λ (k : Block). quality_of k.metric (depunctured_block xs n)) (sym last));
+        depunctured_are =
+            p.depunctured_are ∙ ap (λ (l : List ℤ). depunctured_block xs n ++ l) (ap (drop 3096) r.depunctured_are ∙ rest_depunctured xs r.block n before)
             ∙ ap (λ (m : ℕ). (work_after xs blocks m before).depunctured) (sym (add-one n));
         words_are =
             p.words_are ∙ ap₂ (λ (k : Block) (l : List ℕ). k.choices ++ l) (sym last) (ap (drop 774) r.words_are ∙ rest_words xs r.block n before r.each)
@@ -216,5 +216,5 @@ module _ (xs : List ℤ) (before : Buffers) (n sum count : ℕ) (counts : List �
         bits_are =
             p.bits_are ∙ ap₂ (λ (k : Block) (l : List ℕ). (data_bits k.decoded ++ drop 768 k.decoded) ++ l) (sym last) (ap (drop 774) r.bits_are ∙ rest_bits xs r.block n before r.each)
             ∙ ap (λ (m : ℕ). (work_after xs blocks m before).bits) (sym (add-one n));
-        fibs-are = next_fibs;
+        fibs_are = next_fibs;
       }

@@ -58,11 +58,11 @@ work_ext xs k l (suc n) before h =
 processed-one : {xs : List ℤ} {n : ℕ} {before : Buffers} {r s : Fic} {after also : Buffers} → Processed xs n before r after → Processed xs n before s also → SameFic r after s also
 processed-one {xs} {n} {before} {r} {s} {after} {also} f g =
     record {
-      answer-is =
+      answer_is =
           fic-one r s (answer-one r.answer s.answer (f.answer ∙ ap gives sums ∙ sym g.answer))
           (f.passed ∙ four_ext n _ _ 0 (λ b h. ap (λ (k : Block). count_of (data_bits k.decoded) 3) (blocks b h)) ∙ sym g.passed)
           (f.quality ∙ four_ext n _ _ nothing (λ b h. ap (λ (k : Block). quality_of k.metric (depunctured_block xs b)) (blocks b h)) ∙ sym g.quality);
-      buffers-are =
+      buffers_are =
           λ i. fic_buffers ((f.depunctured ∙ ap (λ (l : Buffers). l.depunctured) works ∙ sym g.depunctured) i) ((f.words ∙ ap (λ (l : Buffers). l.words) works ∙ sym g.words) i)
           ((f.bits ∙ ap (λ (l : Buffers). l.bits) works ∙ sym g.bits) i)
           ((f.fibs ∙ ap₂ (λ (w : List ℕ) (m : ℕ). w ++ drop (32 * m) before.fibs) (written_ext f.block g.block n blocks) sums ∙ sym g.fibs) i);
@@ -82,8 +82,8 @@ unfolding Outcomes
 outcomes_one zero xs before r s after also f g = processed-one f g
 outcomes_one (suc k) xs before r s after also f g =
     record {
-      answer-is = fic-one r s (answer-one r.answer s.answer (f.0.answer ∙ sym g.0.answer)) (f.0.passed ∙ sym g.0.passed) (f.0.quality ∙ sym g.0.quality);
-      buffers-are = f.1 ∙ sym g.1;
+      answer_is = fic-one r s (answer-one r.answer s.answer (f.0.answer ∙ sym g.0.answer)) (f.0.passed ∙ sym g.0.passed) (f.0.quality ∙ sym g.0.quality);
+      buffers_are = f.1 ∙ sym g.1;
     }
 
 -- for every input the promise allows one result

@@ -12,12 +12,12 @@ use Rattle.fic_handler.specs.Blocks.{data_bits, passed_bytes, count_of, Block, B
 
 -- a FIB's bits, tested: packed into the start of the output if it passed, and else nothing
 pub record KeptFib (bits before : List ℕ) (kept : ℕ) (after : List ℕ) : Type 0 where
-  pub kept-is : kept ≡ pick_n (fib_valid bits) 1 0
+  pub kept_is : kept ≡ pick_n (fib_valid bits) 1 0
   pub bytes : after ≡ cond (fib_valid bits) (bytes_of_bits bits ++ drop 32 before) before
 
 -- of the first n FIBs the passed ones stand at the start of the output, and the rest of it is as it was
 pub record KeptFibs (bits : List ℕ) (n : ℕ) (before : List ℕ) (kept : ℕ) (after : List ℕ) : Type 0 where
-  pub kept-is : kept ≡ count_of bits n
+  pub kept_is : kept ≡ count_of bits n
   pub bytes : after ≡ passed_bytes bits n ++ drop (32 * kept) before
 
 -- the 3,096 values xs of a block, decoded: its quality, its choices, and its bits, the data bits dispersed and the tail as decoded
@@ -25,7 +25,7 @@ pub record BlockDecoded (xs : List ℤ) (words bits : List ℕ) (q : Quality) (w
   pub block : Block
   pub decodes : Decodes zero_end xs 774 block.decoded block.metric
   pub chosen : ChoiceWords xs 774 block.choices
-  pub quality-is : q ≡ quality_of block.metric xs
+  pub quality_is : q ≡ quality_of block.metric xs
   pub words_are : words' ≡ block.choices ++ drop 774 words
   pub bits_are : bits' ≡ (data_bits block.decoded ++ drop 768 block.decoded) ++ drop 774 bits
 
@@ -42,12 +42,12 @@ pub record BlockProcessed (values : List ℤ) (before : Buffers) (count : ℕ) (
   pub block : Block
   pub decodes : Decodes zero_end (depuncture (mask fic_profile) values) 774 block.decoded block.metric
   pub chosen : ChoiceWords (depuncture (mask fic_profile) values) 774 block.choices
-  pub count-is : count ≡ count_of (data_bits block.decoded) 3
-  pub quality-is : q ≡ quality_of block.metric (depuncture (mask fic_profile) values)
-  pub depunctured-are : after.depunctured ≡ depuncture (mask fic_profile) values ++ drop 3096 before.depunctured
+  pub count_is : count ≡ count_of (data_bits block.decoded) 3
+  pub quality_is : q ≡ quality_of block.metric (depuncture (mask fic_profile) values)
+  pub depunctured_are : after.depunctured ≡ depuncture (mask fic_profile) values ++ drop 3096 before.depunctured
   pub words_are : after.words ≡ block.choices ++ drop 774 before.words
   pub bits_are : after.bits ≡ (data_bits block.decoded ++ drop 768 block.decoded) ++ drop 774 before.bits
-  pub fibs-are : after.fibs ≡ passed_bytes (data_bits block.decoded) 3 ++ drop (32 * count) before.fibs
+  pub fibs_are : after.fibs ≡ passed_bytes (data_bits block.decoded) 3 ++ drop (32 * count) before.fibs
 
 -- n blocks are there, and the buffers are long enough for them
 pub record BlocksFit (n : ℕ) (xs : List ℤ) (l : Buffers) : Type 0 where

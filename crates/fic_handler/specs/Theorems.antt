@@ -6,8 +6,8 @@ use Rattle.fic_handler.specs.Promise.{FicPromise}
 
 -- two results of one call
 pub record SameFic (r : Fic) (after : Buffers) (s : Fic) (also : Buffers) : Type 0 where
-  pub answer-is : r ≡ s
-  pub buffers-are : after ≡ also
+  pub answer_is : r ≡ s
+  pub buffers_are : after ≡ also
 
 -- for every input the promise allows one result (fic_unique)
 abbrev pub FicUnique : Type 0

@@ -1,4 +1,6 @@
 // FIC handling (fic/handler.rs): three symbols to checked FIBs, with the quality of each block.
+#![tactic(auto)]
+
 ghost use Rattle.std.specs.Prelude.{◌≡◌, ◌++◌, ◌+◌, ◌*◌, ◌/◌, ◌<◌, ◌≤◌, length, take, drop};
 ghost use Rattle.laws.specs.Bits.{AreBits};
 ghost use Rattle.laws.specs.Integers.{at};
@@ -16,14 +18,14 @@ use refusal::Refusal;
 // Soft values of a symbol: two for each carrier.
 const SYMBOL: usize = 2 * fec_crc::K;
 
-#[derive(Drop)]
+#[derive(Clone, Copy)]
 pub enum FicAnswer {
     Fibs(usize),
     Refused(Refusal),
 }
 
 // FIBs passed and quality for each block; all zero for an absent block and on a refusal.
-#[derive(Drop)]
+#[derive(Clone, Copy)]
 pub struct Fic {
     pub answer: FicAnswer,
     pub passed: [usize; 4],
@@ -108,7 +110,7 @@ fn keep_fibs(bits: &[u8], fibs: &mut [u8]) -> usize
 }
 
 // What one block gave.
-#[derive(Drop)]
+#[derive(Clone, Copy)]
 struct BlockAnswer {
     passed: usize,
     quality: Quality,

@@ -1,10 +1,12 @@
 // Which component of a service a station list names, and which sub-channels a service is carried in (document 02, order 1).
+#![tactic(auto)]
+
 ghost use Rattle.std.specs.Prelude.{◌≡◌};
 ghost use Rattle.fic_stations.specs.Components.{is_primary, component_of, primary_of, carried_by, carried_in};
 
 // A service's component: audio by its type, or data, in the sub-channel of that number; reserved; in packets, whose sub-channel FIG 0/3 says;
 // missing where none is primary.
-#[derive(Drop)]
+#[derive(Clone, Copy)]
 pub enum Component {
     Audio(u16, usize),
     Data(usize),

@@ -65,7 +65,7 @@ module _ (c : Channel) (b : Buffers) where
           frame' = frame';
           framing = subst (λ (v : List ℤ). Framed (ends_of c.description.is_eep) c.description.bitrate v b.words b.bits b.frame p words' bits' frame') same f;
           answer = refl;
-          buffers-are = λ i. buffers b.cif (filled i) (read i) (dep-is i) words' bits' frame';
+          buffers_are = λ i. buffers b.cif (filled i) (read i) (dep-is i) words' bits' frame';
         })
 
 -- a call, from what the code leaves
@@ -107,13 +107,13 @@ pub record Gathered (s : State) (soft : List ℤ) (b : Buffers) (s' : State) (b'
 pub record Finished (s : State) (soft : List ℤ) (b : Buffers) (s' : State) (b' : Buffers) : Type 0 where
   pub moved : s' ≡ state_after s
   pub kept : b'.cif ≡ stored b.cif s.symbols soft
-  pub ring-is : b'.ring ≡ (rotated s.channel (gathered s soft b)).ring
+  pub ring_is : b'.ring ≡ (rotated s.channel (gathered s soft b)).ring
   pub read_is : b'.deinterleaved ≡ (rotated s.channel (gathered s soft b)).deinterleaved
 
 completed_stores : (d : Bool) (c : Channel) (b : Buffers) (said : Said) (b' : Buffers) → Completed d c b said b' → (b'.cif ≡ b.cif) × (b'.ring ≡ (rotated c b).ring) × (b'.deinterleaved ≡ (rotated c b).deinterleaved)
 unfolding Completed
 completed_stores false c b said b' x = (ap (λ (q : Buffers). q.cif) x.1, ap (λ (q : Buffers). q.ring) x.1, ap (λ (q : Buffers). q.deinterleaved) x.1)
-completed_stores true c b said b' x = (ap (λ (q : Buffers). q.cif) x.buffers-are, ap (λ (q : Buffers). q.ring) x.buffers-are, ap (λ (q : Buffers). q.deinterleaved) x.buffers-are)
+completed_stores true c b said b' x = (ap (λ (q : Buffers). q.cif) x.buffers_are, ap (λ (q : Buffers). q.ring) x.buffers_are, ap (λ (q : Buffers). q.deinterleaved) x.buffers_are)
 
 completed_number : (d : Bool) (c : Channel) (b : Buffers) (said : Said) (b' : Buffers) → Completed d c b said b' → number_of said ≡ 0
 unfolding Completed
@@ -147,7 +147,7 @@ module _ (s : State) (soft : List ℤ) (b : Buffers) {r : Fed} {b' : Buffers} (p
   fed-completes none h =
       let x = in_turn (gives completes) (accepted-turn s soft b none (le-leb 17 s.symbols h)) in
       let y = completed_stores (due s.channel) s.channel (gathered s soft b) (said_of r.answer) b' x.1 in
-      record { moved = x.0; kept = y.0; ring-is = y.1; read_is = y.2 }
+      record { moved = x.0; kept = y.0; ring_is = y.1; read_is = y.2 }
 
   -- the answer's number is that of the first refusal
   pub fed-number : number_of (said_of r.answer) ≡ refusal_in s soft b
@@ -189,8 +189,8 @@ completed_unique true c b x y =
     let u = framed_unique x.framing y.framing in
     let rest : List ℤ = depunctured_of c b.ring ++ drop (depunctured_length c.description) b.depunctured in
     record {
-      said_one = x.answer ∙ ap (λ (p : Float). gives (framed (3 * c.description.bitrate) p)) u.percent-one ∙ sym y.answer;
-      left_one = x.buffers-are ∙ (λ i. buffers (rotated c b).cif (rotated c b).ring (rotated c b).deinterleaved rest (u.words-one i) (u.bits-one i) (u.frame-one i)) ∙ sym y.buffers-are;
+      said_one = x.answer ∙ ap (λ (p : Float). gives (framed (3 * c.description.bitrate) p)) u.percent_one ∙ sym y.answer;
+      left_one = x.buffers_are ∙ (λ i. buffers (rotated c b).cif (rotated c b).ring (rotated c b).deinterleaved rest (u.words-one i) (u.bits-one i) (u.frame-one i)) ∙ sym y.buffers_are;
     }
 
 turn_unique : (t : Turn) (s : State) (soft : List ℤ) (b : Buffers) {r r₂ : Fed} {b' b₂ : Buffers} → Feeds t s soft b r.state (said_of r.answer) b' → Feeds t s soft b r₂.state (said_of r₂.answer) b₂ → SameFed r r₂ b' b₂

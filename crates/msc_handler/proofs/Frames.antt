@@ -36,10 +36,10 @@ measure_fits q m xs h e = ap percent_in (is-measured q m xs h e)
 
 module _ {rate : ℕ} {soft : List ℤ} {words bits frame : List ℕ} (fits_in : FrameLongEnough rate soft words bits frame) where
   steps-are : steps soft ≡ steps_of rate
-  steps-are = omega (arith, fits_in.soft-long)
+  steps-are = omega (arith, fits_in.soft_long)
 
   ended : {ends : Ends} (r : Decoding) {words' bits' : List ℕ} → Decoded ends soft words bits (decoded_as r) words' bits' → Finished ends soft words bits r words' bits'
-  ended r d = finished r (omega (arith, fits_in.few, steps-are)) (omega (arith, fits_in.words_long, steps-are)) (omega (arith, fits_in.bits-long, steps-are)) d
+  ended r d = finished r (omega (arith, fits_in.few, steps-are)) (omega (arith, fits_in.words_long, steps-are)) (omega (arith, fits_in.bits_long, steps-are)) d
 
   -- the bits from the front of the buffer: those of the frame, and the rest
   module _ (decoded bits₁ : List ℕ) {front : List ℕ} (long : length decoded ≡ steps_of rate) (is : bits₁ ≡ decoded ++ drop (steps_of rate) bits) (e : front ≡ disperse (take (24 * rate) bits₁)) where
@@ -55,7 +55,7 @@ module _ {rate : ℕ} {soft : List ℤ} {words bits frame : List ℕ} (fits_in :
     frame-after : AreBits decoded → packed (take (24 * rate) (front ++ drop (24 * rate) bits₁)) frame ≡ bytes_of_bits (frame_bits rate decoded) ++ drop (3 * rate) frame
     frame-after h =
         ap (λ (xs : List ℕ). packed xs frame) (take_at front (drop (24 * rate) bits₁) (24 * rate) front_long)
-        ∙ pack_fits front frame (3 * rate) (omega (arith, front_long)) fits_in.frame-long
+        ∙ pack_fits front frame (3 * rate) (omega (arith, front_long)) fits_in.frame_long
         ∙ ap (λ (xs : List ℕ). bytes_of xs ++ drop (3 * rate) frame) front_is
         ∙ ap (λ (bytes : List ℕ). bytes ++ drop (3 * rate) frame) (bytes_of-bits (frame_bits rate decoded) (disperse-bits (below-take (24 * rate) h)))
 
@@ -73,7 +73,7 @@ module _ {rate : ℕ} {soft : List ℤ} {words bits frame : List ℕ} (fits_in :
         choices = left.choices;
         decodes = left.decodes;
         chosen = left.chosen;
-        percent-is = p ∙ measure_fits q done.metric soft (omega (arith, fits_in.few, steps-are)) (m ∙ ap (λ (s : Decoding). measured (metric_of s) soft) done.done_is);
+        percent_is = p ∙ measure_fits q done.metric soft (omega (arith, fits_in.few, steps-are)) (m ∙ ap (λ (s : Decoding). measured (metric_of s) soft) done.done_is);
         words_are = left.words_are;
         bits_are = bits-after left.decoded bits₁ long left.bits_are f;
         frame_is = pk ∙ frame-after left.decoded bits₁ long left.bits_are f (decoded-bits left.decodes);
@@ -81,7 +81,7 @@ module _ {rate : ℕ} {soft : List ℤ} {words bits frame : List ℕ} (fits_in :
 
 -- two frames of the same values are one
 pub record SameFrame (percent percent₂ : Float) (words bits frame words₂ bits₂ frame₂ : List ℕ) : Type 0 where
-  pub percent-one : percent ≡ percent₂
+  pub percent_one : percent ≡ percent₂
   pub words-one : words ≡ words₂
   pub bits-one : bits ≡ bits₂
   pub frame-one : frame ≡ frame₂
@@ -91,7 +91,7 @@ pub framed_unique : {ends : Ends} {rate : ℕ} {soft : List ℤ} {words bits fra
 framed_unique {rate = rate} {soft} {words} {bits} {frame} x y =
     let d : x.decoded ≡ y.decoded = bits-one x.decodes y.decodes in
     record {
-      percent-one = x.percent-is ∙ ap (λ (m : ℤ). percent_of m (sum_abs soft)) (metric-one x.decodes y.decodes) ∙ sym y.percent-is;
+      percent_one = x.percent_is ∙ ap (λ (m : ℤ). percent_of m (sum_abs soft)) (metric-one x.decodes y.decodes) ∙ sym y.percent_is;
       words-one = x.words_are ∙ ap (λ (c : List ℕ). c ++ drop (steps_of rate) words) (words-one x.chosen y.chosen) ∙ sym y.words_are;
       bits-one = x.bits_are ∙ ap (λ (c : List ℕ). frame_bits rate c ++ (drop (24 * rate) c ++ drop (steps_of rate) bits)) d ∙ sym y.bits_are;
       frame-one = x.frame_is ∙ ap (λ (c : List ℕ). bytes_of_bits (frame_bits rate c) ++ drop (3 * rate) frame) d ∙ sym y.frame_is;

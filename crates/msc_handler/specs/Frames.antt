@@ -21,18 +21,18 @@ pub record Framed (ends : Ends) (rate : ℕ) (soft : List ℤ) (words bits frame
   pub choices : List ℕ
   pub decodes : Decodes ends soft (steps_of rate) decoded metric
   pub chosen : ChoiceWords soft (steps_of rate) choices
-  pub percent-is : percent ≡ percent_of metric (sum_abs soft)
+  pub percent_is : percent ≡ percent_of metric (sum_abs soft)
   pub words_are : words' ≡ choices ++ drop (steps_of rate) words
   pub bits_are : bits' ≡ frame_bits rate decoded ++ (drop (24 * rate) decoded ++ drop (steps_of rate) bits)
   pub frame_is : frame' ≡ bytes_of_bits (frame_bits rate decoded) ++ drop (3 * rate) frame
 
 -- buffers long enough for a frame, and no more steps than a decoder takes
 pub record FrameLongEnough (rate : ℕ) (soft : List ℤ) (words bits frame : List ℕ) : Type 0 where
-  pub soft-long : length soft ≡ 96 * rate + 24
+  pub soft_long : length soft ≡ 96 * rate + 24
   pub few : steps_of rate ≤ 65536
   pub words_long : steps_of rate ≤ length words
-  pub bits-long : steps_of rate ≤ length bits
-  pub frame-long : 3 * rate ≤ length frame
+  pub bits_long : steps_of rate ≤ length bits
+  pub frame_long : 3 * rate ≤ length frame
 
 -- the percentage of a quality, where there is one
 abbrev pub percent_in : Measured → Float

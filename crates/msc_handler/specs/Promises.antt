@@ -104,7 +104,7 @@ pub record FramePromise (c : Channel) (b : Buffers) (said : Said) (b' : Buffers)
   pub frame' : List ℕ
   pub framing : Framed (ends_of c.description.is_eep) c.description.bitrate (depunctured_of c b.ring) b.words b.bits b.frame percent words' bits' frame'
   pub answer : said ≡ gives (framed (3 * c.description.bitrate) percent)
-  pub buffers-are : b' ≡ buffers (rotated c b).cif (rotated c b).ring (rotated c b).deinterleaved (depunctured_of c b.ring ++ drop (depunctured_length c.description) b.depunctured) words' bits' frame'
+  pub buffers_are : b' ≡ buffers (rotated c b).cif (rotated c b).ring (rotated c b).deinterleaved (depunctured_of c b.ring ++ drop (depunctured_length c.description) b.depunctured) words' bits' frame'
 
 -- a whole CIF in b: of the first sixteen, only the ring and `deinterleaved` change
 unfoldable pub Completed : Bool → Channel → Buffers → Said → Buffers → Type 0

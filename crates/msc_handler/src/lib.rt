@@ -1,4 +1,6 @@
 // MSC: symbols to CIFs, a sub-channel's slice through the ring, frames (msc/mod.rs).
+#![tactic(auto)]
+
 ghost use Rattle.std.specs.Prelude.{◌≡◌, ◌++◌, ◌+◌, ◌*◌, ◌-◌, ◌<◌, ◌≤◌, length, take, drop, set};
 ghost use Rattle.std.proofs.Math.Seq.{paste};
 ghost use Rattle.laws.specs.Integers.{at};
@@ -17,14 +19,14 @@ use fec_quality::Measured;
 use fec_viterbi::Decoding;
 use msc_state::{Channel, Lengths, State};
 
-#[derive(Drop)]
+#[derive(Clone, Copy)]
 pub enum Answer {
     Waiting,
     Frame(usize, f64),
     Refused(u8),
 }
 
-#[derive(Drop)]
+#[derive(Clone, Copy)]
 pub struct Fed {
     pub state: State,
     pub answer: Answer,

@@ -1,4 +1,6 @@
 // The state of a sub-channel after a symbol (msc/mod.rs).
+#![tactic(auto)]
+
 ghost use Rattle.std.specs.Prelude.{◌≡◌, cond, ◌+◌, ◌%◌, ◌<◌, min, ltb};
 ghost use Rattle.msc_state.specs.States.{most_frames, channel_after, state_after};
 

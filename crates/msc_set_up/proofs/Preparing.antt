@@ -20,14 +20,14 @@ module _ {d : Description} {other : State} {ring : List ℤ} where
     where
       go : (n k : ℕ) → k ≡ n → (k ≡ 0 → ⊥) → Prepared n d other ring (record { state = s; answer = judged-refused (record { number = k }) }) ring
       go zero k p q = absurd (q p)
-      go (suc n) k p q = record { answer = ap refuses p; state = f; ring-is = refl }
+      go (suc n) k p q = record { answer = ap refuses p; state = f; ring_is = refl }
 
   pub prepared_given : {n : ℕ} {s : State} {ring' : List ℤ} → n ≡ 0 → s ≡ fresh_state d → ring' ≡ cleared d ring → Prepared n d other ring (record { state = s; answer = judged-accepted }) ring'
   prepared_given {n} {s} {ring'} e f g =
       record {
         answer = sym (ap (λ (m : ℕ). outcome m tt) e);
         state = f ∙ sym (ap (λ (m : ℕ). unless_refused m (fresh_state d) other) e);
-        ring-is = g ∙ sym (ap (λ (m : ℕ). unless_refused m (cleared d ring) ring) e);
+        ring_is = g ∙ sym (ap (λ (m : ℕ). unless_refused m (cleared d ring) ring) e);
       }
 
 -- one result
@@ -39,7 +39,7 @@ prepared_unique : {n : ℕ} {d : Description} {other : State} {ring : List ℤ} 
 prepared_unique {r = r} {r₂} p q =
     record {
       result-one = ap₂ (λ (s : State) (j : Judged). record { state = s; answer = j }) (p.state ∙ sym q.state) (judged_unique r.answer r₂.answer (p.answer ∙ sym q.answer));
-      ring-one = p.ring-is ∙ sym q.ring-is;
+      ring-one = p.ring_is ∙ sym q.ring_is;
     }
 
 pub set_up_unique : {d : Description} {ring : List ℤ} {r r₂ : SetUp} {ring' ring₂ : List ℤ} → SetUpPromise d ring r ring' → SetUpPromise d ring r₂ ring₂ → SameSetUp r r₂ ring' ring₂

@@ -15,7 +15,7 @@ cleared d ring = replicate (ring_length d) (pos 0) ++ drop (ring_length d) ring
 pub record Prepared (n : ℕ) (d : Description) (other : State) (ring : List ℤ) (r : SetUp) (ring' : List ℤ) : Type 0 where
   pub answer : judged_as r.answer ≡ outcome n tt
   pub state : r.state ≡ unless_refused n (fresh_state d) other
-  pub ring-is : ring' ≡ unless_refused n (cleared d ring) ring
+  pub ring_is : ring' ≡ unless_refused n (cleared d ring) ring
 
 -- a refused set-up has a state of zeros
 abbrev pub SetUpPromise : Description → List ℤ → SetUp → List ℤ → Type 0

@@ -1,4 +1,6 @@
 // MSC: set-up and reset of a sub-channel's state and ring (msc/mod.rs).
+#![tactic(auto)]
+
 ghost use Rattle.std.specs.Prelude.{◌≡◌, ◌≤◌, length, replicate, pos};
 ghost use Rattle.msc_state.specs.States.{ring_length, started_at, no_description};
 ghost use Rattle.msc_set_up.specs.Promises.{cleared, SetUpPromise, ResetPromise};
@@ -7,7 +9,7 @@ use fec_protection::{Description, Judged};
 use msc_state::{Channel, State};
 use refusal::Refusal;
 
-#[derive(Drop)]
+#[derive(Clone, Copy)]
 pub struct SetUp {
     pub state: State,
     pub answer: Judged,

@@ -39,13 +39,13 @@ unfolding is_too_short
 long_enough d l e =
     let n = none_of (shortages d l) e in
     record {
-      cif-long = ltb-false l.cif 55296 (off_at n 0);
+      cif_long = ltb-false l.cif 55296 (off_at n 0);
       ring_long = ltb-false l.ring (ring_length d) (off_at n 1);
-      read-long = ltb-false l.deinterleaved (values_of d) (off_at n 2);
-      soft-long = ltb-false l.depunctured (depunctured_length d) (off_at n 3);
+      read_long = ltb-false l.deinterleaved (values_of d) (off_at n 2);
+      soft_long = ltb-false l.depunctured (depunctured_length d) (off_at n 3);
       words_long = ltb-false l.words (steps_of d.bitrate) (off_at n 4);
-      bits-long = ltb-false l.bits (steps_of d.bitrate) (off_at n 5);
-      frame-long = ltb-false l.frame (frame_length d) (off_at n 6);
+      bits_long = ltb-false l.bits (steps_of d.bitrate) (off_at n 5);
+      frame_long = ltb-false l.frame (frame_length d) (off_at n 6);
     }
 
 -- set-up, reset and feeding that are not refused

@@ -39,13 +39,13 @@ is_too_short d l = any_of (shortages d l)
 
 -- each is long enough
 pub record LongEnough (d : Description) (l : Lengths) : Type 0 where
-  pub cif-long : cif_bits ≤ l.cif
+  pub cif_long : cif_bits ≤ l.cif
   pub ring_long : ring_length d ≤ l.ring
-  pub read-long : values_of d ≤ l.deinterleaved
-  pub soft-long : depunctured_length d ≤ l.depunctured
+  pub read_long : values_of d ≤ l.deinterleaved
+  pub soft_long : depunctured_length d ≤ l.depunctured
   pub words_long : steps_of d.bitrate ≤ l.words
-  pub bits-long : steps_of d.bitrate ≤ l.bits
-  pub frame-long : frame_length d ≤ l.frame
+  pub bits_long : steps_of d.bitrate ≤ l.bits
+  pub frame_long : frame_length d ≤ l.frame
 
 -- set-up: 1 to 7, then 8
 abbrev pub set_up_checks : Description → ℕ → List ℕ

@@ -1,4 +1,6 @@
 // The state of a sub-channel between symbols, and its refusals (msc/mod.rs).
+#![tactic(auto)]
+
 ghost use Rattle.std.specs.Prelude.{◌≡◌, cond};
 ghost use Rattle.fec_protection.specs.Refusals.{refusal_of};
 ghost use Rattle.msc_state.specs.States.{bad_state, is_too_short, set_up_refusal, reset_refusal, feed_refusal};
@@ -6,7 +8,7 @@ ghost use Rattle.msc_state.specs.States.{bad_state, is_too_short, set_up_refusal
 use fec_protection::{Description, Judged};
 
 // What belongs to the sub-channel.
-#[derive(Drop)]
+#[derive(Clone, Copy)]
 pub struct Channel {
     pub description: Description,
     pub ring_index: u8,
@@ -15,7 +17,7 @@ pub struct Channel {
 }
 
 // What belongs to the CIF, and the sub-channel.
-#[derive(Drop)]
+#[derive(Clone, Copy)]
 pub struct State {
     pub symbols: u8,
     pub cif_in_frame: u8,
@@ -23,7 +25,7 @@ pub struct State {
 }
 
 // The lengths of the seven buffers that a caller of feeding provides.
-#[derive(Drop)]
+#[derive(Clone, Copy)]
 pub struct Lengths {
     pub cif: usize,
     pub ring: usize,
