@@ -1,4 +1,6 @@
 // A description as six numbers, as C passes it, and what is asked of one: its judgement, its profile and its sizes, in the caller's places.
+#![tactic(auto)]
+
 ghost use Rattle.std.specs.Prelude.{◌≡◌, [], ◌∷◌, length};
 ghost use Rattle.spec_en300401.specs.Puncturing.{kept_size};
 ghost use Rattle.refusal.specs.Outcome.{number_of, or_else};

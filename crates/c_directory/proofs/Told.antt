@@ -1,7 +1,7 @@
 -- From the crates' answers to a number and to numbers in the caller's places.
 -- Assumes nothing.
 use mathlib.Core.Path.{◌≡◌, refl, sym, ap, ap₂, ◌∙◌, subst}
-use mathlib.Core.List.{List, [], ◌∷◌, ◌++◌}
+use mathlib.Core.List.{List, ◌∷◌, ◌++◌}
 use mathlib.Core.Option.{Option, none, some}
 use Prim.Native.Nat.{ℕ, zero, suc, ◌<◌, ◌≤◌}
 use native.Mathlib.Omega.{arith}
@@ -192,7 +192,7 @@ read_short fibs h counts k l e =
     record {
       answer = e ∙ sym n-is;
       numbers = rw n-is (left_alone (held_refusal h) (read_into fibs h).numbers h);
-      counts-are = rw n-is (left_alone (held_refusal h) _ counts);
+      counts_are = rw n-is (left_alone (held_refusal h) _ counts);
     }
 
 first_five : (o : Outcome Reading) → take 5 (padded (counts_in o) 11) ≡ counts_in o
@@ -210,4 +210,4 @@ read_told fibs h h' a k values counts counts' number l p e q w =
     told 5 (take 5 values) (counts_of r) counts counts' number n k (e ∙ ap number_of p.answer ∙ number_of_lem n r)
     (λ z. ap (take 5) q ∙ first_five (read_as a) ∙ ap counts_in p.answer ∙ counts_of_lem n r z) w in
     let n-is : read_number h (length counts) ≡ n = ap (or_else n) (rw (le-ltb _ _ l) refl) ∙ or_else-zero n in
-    record { answer = t.answer; numbers = p.numbers ∙ ap (λ (m : ℕ). unless_refused m (read_into fibs h).numbers h) (sym n-is); counts-are = t.places }
+    record { answer = t.answer; numbers = p.numbers ∙ ap (λ (m : ℕ). unless_refused m (read_into fibs h).numbers h) (sym n-is); counts_are = t.places }

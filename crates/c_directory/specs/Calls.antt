@@ -32,7 +32,7 @@ read_number h counts = or_else (held_refusal h) (short 5 counts)
 pub record ReadCall (fibs : List ℕ) (before : Held) (counts : List ℕ) (number : ℕ) (after : Held) (counts' : List ℕ) : Type 0 where
   pub answer : number ≡ read_number before (length counts)
   pub numbers : after ≡ unless_refused (read_number before (length counts)) (read_into fibs before).numbers before
-  pub counts-are : counts' ≡ unless_refused (read_number before (length counts)) (counts_of (reading_of fibs before) ++ drop 5 counts) counts
+  pub counts_are : counts' ≡ unless_refused (read_number before (length counts)) (counts_of (reading_of fibs before) ++ drop 5 counts) counts
 
 -- an answer of some numbers before the rest as it was; or refusal n, or else 8 under as many places, and all as it was
 pub record Answered (n need : ℕ) (values before after : List ℕ) (number : ℕ) : Type 0 where

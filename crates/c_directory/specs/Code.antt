@@ -1,6 +1,6 @@
 -- What the private functions promise: the code's own terms.
-use Rattle.std.specs.Prelude.{List, [], ◌++◌, ℕ, length, replicate}
-use Rattle.std.proofs.Math.Option.{Option, none, some}
+use Rattle.std.specs.Prelude.{List, ◌++◌, ℕ, length, replicate}
+use Rattle.std.proofs.Math.Option.{Option, none}
 use Rattle.refusal.specs.Outcome.{Outcome, gives, refuses}
 use Rattle.c_description.specs.Places.{short, Wrote}
 use Rattle.fic_directory.specs.declared.Reading.{Reading}

@@ -1,4 +1,6 @@
 // The station list over plain numbers (document 02, order 1): answers as numbers in the caller's places, a refusal as its number.
+#![tactic(auto)]
+
 ghost use Rattle.std.specs.Prelude.{◌≡◌, ◌++◌, ◌≤◌, length, take};
 ghost use Rattle.laws.specs.Words.{pick_n};
 ghost use Rattle.refusal.specs.Outcome.{number_of, or_else};

@@ -19,7 +19,7 @@ pub record SameCall (k : ℕ) (words bits : List ℕ) (metrics : List ℤ) (k' :
   pub number_is : k ≡ k'
   pub words_are : words ≡ words'
   pub bits_are : bits ≡ bits'
-  pub metrics-are : metrics ≡ metrics'
+  pub metrics_are : metrics ≡ metrics'
 
 module _ {ends : Ends} {xs : List ℤ} {words bits : List ℕ} {metrics : List ℤ} {ws bs ws' bs' : List ℕ} {ms ms' : List ℤ} where
   pub decoder_unique : {k k' : ℕ} → Decoder ends xs words bits metrics k ws bs ms → Decoder ends xs words bits metrics k' ws' bs' ms' → SameCall k ws bs ms k' ws' bs' ms'
@@ -31,5 +31,5 @@ module _ {ends : Ends} {xs : List ℤ} {words bits : List ℕ} {metrics : List �
       go : (n : ℕ) → unless_refused n (Written ends xs words bits metrics ws bs ms) (Untouched words bits metrics ws bs ms) → unless_refused n (Written ends xs words bits metrics ws' bs' ms') (Untouched words bits metrics ws' bs' ms') → SameCall k ws bs ms k' ws' bs' ms'
       go zero x y =
           let same = accepted_unique x.decoded y.decoded in
-          record { number_is = number-one; words_are = same.words_are; bits_are = same.bits_are; metrics-are = x.metrics-are ∙ ap (λ (m : ℤ). m ∷ drop 1 metrics) same.metric-is ∙ sym y.metrics-are }
-      go (suc n) x y = record { number_is = number-one; words_are = x.words_are ∙ sym y.words_are; bits_are = x.bits_are ∙ sym y.bits_are; metrics-are = x.metrics-are ∙ sym y.metrics-are }
+          record { number_is = number-one; words_are = same.words_are; bits_are = same.bits_are; metrics_are = x.metrics_are ∙ ap (λ (m : ℤ). m ∷ drop 1 metrics) same.metric_is ∙ sym y.metrics_are }
+      go (suc n) x y = record { number_is = number-one; words_are = x.words_are ∙ sym y.words_are; bits_are = x.bits_are ∙ sym y.bits_are; metrics_are = x.metrics_are ∙ sym y.metrics_are }

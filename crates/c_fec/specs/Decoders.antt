@@ -13,13 +13,13 @@ decoder_number n words bits metrics = or_else (decoder_refusal n words bits) (sh
 pub record Untouched (words bits : List ℕ) (metrics : List ℤ) (words' bits' : List ℕ) (metrics' : List ℤ) : Type 0 where
   pub words_are : words' ≡ words
   pub bits_are : bits' ≡ bits
-  pub metrics-are : metrics' ≡ metrics
+  pub metrics_are : metrics' ≡ metrics
 
 -- done: decoded as the decoder promises, and its metric stands in the first place
 pub record Written (ends : Ends) (xs : List ℤ) (words bits : List ℕ) (metrics : List ℤ) (words' bits' : List ℕ) (metrics' : List ℤ) : Type 0 where
   pub metric : ℤ
   pub decoded : Accepted ends xs (steps xs) words bits metric words' bits'
-  pub metrics-are : metrics' ≡ metric ∷ drop 1 metrics
+  pub metrics_are : metrics' ≡ metric ∷ drop 1 metrics
 
 -- the number of a call
 abbrev pub number_decoding : List ℤ → List ℕ → List ℕ → List ℤ → ℕ

@@ -1,4 +1,6 @@
 // The depuncturers and the decoders over plain numbers: a refusal as its number, a decoder's metric in the caller's place.
+#![tactic(auto)]
+
 ghost use Rattle.std.specs.Prelude.{◌≡◌, ◌≤◌, length};
 ghost use Rattle.spec_trellis.specs.Trellis.{zero_end, free_end};
 ghost use Rattle.refusal.specs.Outcome.{number_of};

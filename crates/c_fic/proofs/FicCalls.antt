@@ -12,7 +12,7 @@ use lib.IntN.{ℤ}
 use lib.Ieee.{Float}
 use Rattle.laws.specs.Lists.{list_from, list_of}
 use Rattle.laws.proofs.Lists.{sets_front}
-use Rattle.refusal.specs.Outcome.{unless_refused, number_of, or_else, first_of}
+use Rattle.refusal.specs.Outcome.{number_of, or_else, first_of}
 use Rattle.refusal.proofs.Checks.{clean, zeroed, later, held_not, same_check, no_more, only, passed_by}
 use Rattle.refusal.proofs.Laws.{or_else_assoc, or_else-zero, or_either, first-append, done_by, untouched_by, done_of, untouched_of}
 use Rattle.fec_quality.specs.declared.Quality.{Quality}
@@ -20,7 +20,7 @@ use Rattle.fic_handler.specs.declared.Fic.{Fic}
 use Rattle.fic_handler.specs.Blocks.{joined, blocks_in, Buffers}
 use Rattle.fic_handler.specs.Promise.{too_long, too_few, process_refusal, answer_of, Outcomes, FicPromise}
 use Rattle.c_description.specs.Places.{short}
-use Rattle.c_fic.specs.Code.{few_of, no_figures, first_four, PutQuality, counts_put, past_end, PutAll, EnoughFigures, FiguresPut, FiguresTold}
+use Rattle.c_fic.specs.Code.{few_of, no_figures, first_four, PutQuality, past_end, PutAll, EnoughFigures, FiguresPut, FiguresTold}
 use Rattle.c_fic.specs.Fic.{Figures, few_figures, fic_number, fibs_in, metrics_of, percents_of, FicUntouched, FicWritten, FicCall}
 
 -- the tests of the three symbols
@@ -62,9 +62,9 @@ enough_figures f e =
     let n = clean (short 5 (length f.counts) ∷ short 8 (length f.metrics) ∷ short 4 (length f.percents) ∷ []) e in
     let n1 = later n in
     record {
-      counts-long = ltb-false (length f.counts) 5 (held_not 7 (ltb (length f.counts) 5) (zeroed n));
-      metrics-long = ltb-false (length f.metrics) 8 (held_not 7 (ltb (length f.metrics) 8) (zeroed n1));
-      percents-long = ltb-false (length f.percents) 4 (held_not 7 (ltb (length f.percents) 4) (zeroed (later n1)));
+      counts_long = ltb-false (length f.counts) 5 (held_not 7 (ltb (length f.counts) 5) (zeroed n));
+      metrics_long = ltb-false (length f.metrics) 8 (held_not 7 (ltb (length f.metrics) 8) (zeroed n1));
+      percents_long = ltb-false (length f.percents) 4 (held_not 7 (ltb (length f.percents) 4) (zeroed (later n1)));
     }
 
 -- then the number is 11 where a symbol is too long, and else 8 whatever the handler's own buffers are
@@ -84,7 +84,7 @@ fic_away {a} {b} {c} {l} f k e h q =
     let over = first_of (too_long a ∷ too_long b ∷ too_long c ∷ []) in
     record {
       answer = q ∙ m;
-      left = untouched_by (FicWritten a b c l f l f) (FicUntouched l f l f) (fic_number a b c l f) (λ z. or_either over 8 (λ y. absurd (omega (arith, y))) (m ∙ z)) (record { buffers-are = refl; figures-are = refl });
+      left = untouched_by (FicWritten a b c l f l f) (FicUntouched l f l f) (fic_number a b c l f) (λ z. or_either over 8 (λ y. absurd (omega (arith, y))) (m ∙ z)) (record { buffers_are = refl; figures_are = refl });
     }
 
 -- the metrics and sums of four records, each pair written together: the front four places take the metrics, the next four the sums
@@ -120,8 +120,8 @@ module _ (p q r s : Quality) (xs : List ℤ) where
       ∙ ap₂ (λ (a b : List ℤ). (ms ++ a) ++ (ss ++ b)) (drop_of_length-le (take 4 xs) {i = 4} (omega (arith, length-take 4 xs))) (drop-drop 4 4 xs)
 
 pub record PutFour (p q r s : Quality) (metrics : List ℤ) (percents : List Float) (metrics' : List ℤ) (percents' : List Float) : Type 0 where
-  pub metrics-are : metrics' ≡ metrics_of (p ∷ q ∷ r ∷ s ∷ []) ++ drop 8 metrics
-  pub percents-are : percents' ≡ percents_of (p ∷ q ∷ r ∷ s ∷ []) ++ drop 4 percents
+  pub metrics_are : metrics' ≡ metrics_of (p ∷ q ∷ r ∷ s ∷ []) ++ drop 8 metrics
+  pub percents_are : percents' ≡ percents_of (p ∷ q ∷ r ∷ s ∷ []) ++ drop 4 percents
 
 pub four-put :
     {p q r s : Quality} {m m1 m2 m3 m4 : List ℤ} {x x1 x2 x3 x4 : List Float}
@@ -134,21 +134,21 @@ pub four-put :
     → PutFour p q r s m x m4 x4
 four-put {p} {q} {r} {s} {m} {x = x} h k d1 d2 d3 d4 =
     record {
-      metrics-are =
-          d4.metrics-are
-          ∙ ap (pair s 3) (d3.metrics-are ∙ ap (pair r 2) (d2.metrics-are ∙ ap (pair q 1) d1.metrics-are))
+      metrics_are =
+          d4.metrics_are
+          ∙ ap (pair s 3) (d3.metrics_are ∙ ap (pair r 2) (d2.metrics_are ∙ ap (pair q 1) d1.metrics_are))
           ∙ pairs_set p q r s m h;
-      percents-are =
-          d4.percents-are
-          ∙ ap (λ (v : List Float). set v 3 s.percent) (d3.percents-are ∙ ap (λ (v : List Float). set v 2 r.percent) (d2.percents-are ∙ ap (λ (v : List Float). set v 1 q.percent) d1.percents-are))
+      percents_are =
+          d4.percents_are
+          ∙ ap (λ (v : List Float). set v 3 s.percent) (d3.percents_are ∙ ap (λ (v : List Float). set v 2 r.percent) (d2.percents_are ∙ ap (λ (v : List Float). set v 1 q.percent) d1.percents_are))
           ∙ sets_front (p.percent ∷ q.percent ∷ r.percent ∷ s.percent ∷ []) x k;
     }
 
 pub as_all : {p q r s : Quality} {m m' : List ℤ} {x x' : List Float} (qs : List Quality) → p ∷ q ∷ r ∷ s ∷ [] ≡ first_four past_end qs → PutFour p q r s m x m' x' → PutAll qs m x m' x'
 as_all {m = m} {x = x} qs e d =
     record {
-      metrics-are = d.metrics-are ∙ ap (λ (v : List Quality). metrics_of v ++ drop 8 m) e;
-      percents-are = d.percents-are ∙ ap (λ (v : List Quality). percents_of v ++ drop 4 x) e;
+      metrics_are = d.metrics_are ∙ ap (λ (v : List Quality). metrics_of v ++ drop 8 m) e;
+      percents_are = d.percents_are ∙ ap (λ (v : List Quality). percents_of v ++ drop 4 x) e;
     }
 
 -- a value for each of four blocks is a list of four
@@ -174,9 +174,9 @@ module _ (a b c : List ℤ) (l : Buffers) (f : Figures) (enough : few_figures f 
             (record {
               fic = r;
               processed = p;
-              counts-are = d.counts-are ∙ ap (λ (xs : List ℕ). (fibs_in r.answer ∷ xs) ++ drop 5 f.counts) (four-whole r.passed 0 _ o.passed);
-              metrics-are = d.records.metrics-are ∙ ap (λ (qs : List Quality). metrics_of qs ++ drop 8 f.metrics) (four-whole r.quality past_end _ o.quality);
-              percents-are = d.records.percents-are ∙ ap (λ (qs : List Quality). percents_of qs ++ drop 4 f.percents) (four-whole r.quality past_end _ o.quality);
+              counts_are = d.counts_are ∙ ap (λ (xs : List ℕ). (fibs_in r.answer ∷ xs) ++ drop 5 f.counts) (four-whole r.passed 0 _ o.passed);
+              metrics_are = d.records.metrics_are ∙ ap (λ (qs : List Quality). metrics_of qs ++ drop 8 f.metrics) (four-whole r.quality past_end _ o.quality);
+              percents_are = d.records.percents_are ∙ ap (λ (qs : List Quality). percents_of qs ++ drop 4 f.percents) (four-whole r.quality past_end _ o.quality);
             });
       }
   told_by (suc n) e o p {k} {f'} t =
@@ -184,7 +184,7 @@ module _ (a b c : List ℤ) (l : Buffers) (f : Figures) (enough : few_figures f 
       let kept = untouched_of (FiguresPut r f f') (f' ≡ f) (number_of (answer_of r.answer)) (λ y. absurd (omega (arith, z, y))) t.figures in
       record {
         answer = t.answer ∙ z ∙ sym (number_is ∙ e);
-        left = untouched_by (FicWritten a b c l f after f') (FicUntouched l f after f') (fic_number a b c l f) (λ y. absurd (omega (arith, number_is ∙ e, y))) (record { buffers-are = o.1; figures-are = kept });
+        left = untouched_by (FicWritten a b c l f after f') (FicUntouched l f after f') (fic_number a b c l f) (λ y. absurd (omega (arith, number_is ∙ e, y))) (record { buffers_are = o.1; figures_are = kept });
       }
 
 pub fic-told : {a b c : List ℤ} {l : Buffers} {after : Buffers} (f : Figures) → few_figures f ≡ 0 → (r : Fic) → FicPromise a b c l r after → {k : ℕ} {f' : Figures} → FiguresTold r f f' k → FicCall a b c l f k after f'

@@ -13,15 +13,15 @@ use Rattle.c_fic.specs.Fic.{Figures, figures, counts_of, metrics_of, percents_of
 
 pub record SameFicCall (k : ℕ) (after : Buffers) (g : Figures) (k' : ℕ) (after' : Buffers) (g' : Figures) : Type 0 where
   pub number_is : k ≡ k'
-  pub buffers-are : after ≡ after'
-  pub figures-are : g ≡ g'
+  pub buffers_are : after ≡ after'
+  pub figures_are : g ≡ g'
 
 module _ {a b c : List ℤ} {l : Buffers} {f : Figures} {after after' : Buffers} {g g' : Figures} where
   figures-one : (x : FicWritten a b c l f after g) (y : FicWritten a b c l f after' g') → x.fic ≡ y.fic → g ≡ g'
   figures-one x y e =
-      λ i. figures ((x.counts-are ∙ ap (λ (r : Fic). counts_of r ++ drop 5 f.counts) e ∙ sym y.counts-are) i)
-      ((x.metrics-are ∙ ap (λ (r : Fic). metrics_of r.quality ++ drop 8 f.metrics) e ∙ sym y.metrics-are) i)
-      ((x.percents-are ∙ ap (λ (r : Fic). percents_of r.quality ++ drop 4 f.percents) e ∙ sym y.percents-are) i)
+      λ i. figures ((x.counts_are ∙ ap (λ (r : Fic). counts_of r ++ drop 5 f.counts) e ∙ sym y.counts_are) i)
+      ((x.metrics_are ∙ ap (λ (r : Fic). metrics_of r.quality ++ drop 8 f.metrics) e ∙ sym y.metrics_are) i)
+      ((x.percents_are ∙ ap (λ (r : Fic). percents_of r.quality ++ drop 4 f.percents) e ∙ sym y.percents_are) i)
 
   pub fic_call_unique : {k k' : ℕ} → FicCall a b c l f k after g → FicCall a b c l f k' after' g' → SameFicCall k after g k' after' g'
   fic_call_unique {k} {k'} x y = go (fic_number a b c l f) x.left y.left
@@ -32,5 +32,5 @@ module _ {a b c : List ℤ} {l : Buffers} {f : Figures} {after after' : Buffers}
       go : (n : ℕ) → unless_refused n (FicWritten a b c l f after g) (FicUntouched l f after g) → unless_refused n (FicWritten a b c l f after' g') (FicUntouched l f after' g') → SameFicCall k after g k' after' g'
       go zero p q =
           let same = fic_unique a b c l p.fic q.fic after after' p.processed q.processed in
-          record { number_is = number-one; buffers-are = same.buffers-are; figures-are = figures-one p q same.answer-is }
-      go (suc n) p q = record { number_is = number-one; buffers-are = p.buffers-are ∙ sym q.buffers-are; figures-are = p.figures-are ∙ sym q.figures-are }
+          record { number_is = number-one; buffers_are = same.buffers_are; figures_are = figures-one p q same.answer_is }
+      go (suc n) p q = record { number_is = number-one; buffers_are = p.buffers_are ∙ sym q.buffers_are; figures_are = p.figures_are ∙ sym q.figures_are }

@@ -23,8 +23,8 @@ module _ {A : Type 0} where
 
 -- a block's record in its places
 pub record PutQuality (q : Quality) (i : ℕ) (metrics : List ℤ) (percents : List Float) (metrics' : List ℤ) (percents' : List Float) : Type 0 where
-  pub metrics-are : metrics' ≡ set (set metrics i q.metric) (4 + i) q.sum
-  pub percents-are : percents' ≡ set percents i q.percent
+  pub metrics_are : metrics' ≡ set (set metrics i q.metric) (4 + i) q.sum
+  pub percents_are : percents' ≡ set percents i q.percent
 
 -- five counts in their places
 abbrev pub counts_put : ℕ → List ℕ → List ℕ → List ℕ
@@ -36,18 +36,18 @@ past_end = record { metric = pos 0; sum = pos 0; percent = nan }
 
 -- four records in their places
 pub record PutAll (qs : List Quality) (metrics : List ℤ) (percents : List Float) (metrics' : List ℤ) (percents' : List Float) : Type 0 where
-  pub metrics-are : metrics' ≡ metrics_of (first_four past_end qs) ++ drop 8 metrics
-  pub percents-are : percents' ≡ percents_of (first_four past_end qs) ++ drop 4 percents
+  pub metrics_are : metrics' ≡ metrics_of (first_four past_end qs) ++ drop 8 metrics
+  pub percents_are : percents' ≡ percents_of (first_four past_end qs) ++ drop 4 percents
 
 -- places for the figures
 pub record EnoughFigures (f : Figures) : Type 0 where
-  pub counts-long : 5 ≤ length f.counts
-  pub metrics-long : 8 ≤ length f.metrics
-  pub percents-long : 4 ≤ length f.percents
+  pub counts_long : 5 ≤ length f.counts
+  pub metrics_long : 8 ≤ length f.metrics
+  pub percents_long : 4 ≤ length f.percents
 
 -- the figures of an answer in their places
 pub record FiguresPut (r : Fic) (f f' : Figures) : Type 0 where
-  pub counts-are : f'.counts ≡ counts_put (fibs_in r.answer) r.passed f.counts
+  pub counts_are : f'.counts ≡ counts_put (fibs_in r.answer) r.passed f.counts
   pub records : PutAll r.quality f.metrics f.percents f'.metrics f'.percents
 
 -- by the answer's number: refused with all as it was, or told

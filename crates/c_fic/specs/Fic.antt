@@ -43,16 +43,16 @@ percents_of qs = map (λ (q : Quality). q.percent) qs
 
 -- refused: nothing changed
 pub record FicUntouched (before : Buffers) (f : Figures) (after : Buffers) (f' : Figures) : Type 0 where
-  pub buffers-are : after ≡ before
-  pub figures-are : f' ≡ f
+  pub buffers_are : after ≡ before
+  pub figures_are : f' ≡ f
 
 -- done: as the handler promises, and the figures of its answer before the rest as it was
 pub record FicWritten (s1 s2 s3 : List ℤ) (before : Buffers) (f : Figures) (after : Buffers) (f' : Figures) : Type 0 where
   pub fic : Fic
   pub processed : FicPromise s1 s2 s3 before fic after
-  pub counts-are : f'.counts ≡ counts_of fic ++ drop 5 f.counts
-  pub metrics-are : f'.metrics ≡ metrics_of fic.quality ++ drop 8 f.metrics
-  pub percents-are : f'.percents ≡ percents_of fic.quality ++ drop 4 f.percents
+  pub counts_are : f'.counts ≡ counts_of fic ++ drop 5 f.counts
+  pub metrics_are : f'.metrics ≡ metrics_of fic.quality ++ drop 8 f.metrics
+  pub percents_are : f'.percents ≡ percents_of fic.quality ++ drop 4 f.percents
 
 pub record FicCall (s1 s2 s3 : List ℤ) (before : Buffers) (f : Figures) (number : ℕ) (after : Buffers) (f' : Figures) : Type 0 where
   pub answer : number ≡ fic_number s1 s2 s3 before f

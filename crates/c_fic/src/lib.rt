@@ -1,4 +1,6 @@
 // FIC handling over plain numbers: the handler's function, with its figures in the caller's places.
+#![tactic(auto)]
+
 ghost use Rattle.std.specs.Prelude.{◌≡◌, ◌<◌, ◌≤◌, length};
 ghost use Rattle.refusal.specs.Outcome.{number_of};
 ghost use Rattle.fic_handler.specs.Blocks.{fic_buffers};

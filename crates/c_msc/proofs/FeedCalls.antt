@@ -2,7 +2,7 @@
 -- Assumes nothing.
 use mathlib.Core.Path.{◌≡◌, refl, sym, ap, ◌∙◌, subst}
 use mathlib.Core.Bool.{false}
-use mathlib.Core.List.{List, [], ◌∷◌, ◌++◌}
+use mathlib.Core.List.{List, [], ◌∷◌}
 use Prim.Native.Nat.{ℕ, zero, suc, ◌<◌, ◌≤◌}
 use native.Mathlib.Omega.{arith}
 use borrow.Author.Tests.{lt-ltb, le-ltb, ltb-false}
@@ -14,7 +14,7 @@ use Rattle.laws.proofs.Lists.{sets_front}
 use Rattle.spec_en300401.specs.Interleaving.{symbol_bits}
 use Rattle.refusal.specs.Outcome.{Outcome, refuses, outcome, unless_refused, number_of, check, or_else, first_of}
 use Rattle.refusal.proofs.Checks.{clean, zeroed, later, held_not, same_check, no_more, only}
-use Rattle.refusal.proofs.Laws.{or_else-zero, or_given, or_other, or_either, first-append, first-refused, where_done, where_refused, done_by, untouched_by, done_of, untouched_of}
+use Rattle.refusal.proofs.Laws.{or_else-zero, or_given, or_other, or_either, first-append, first-refused, where_done, where_refused, untouched_by, done_of, untouched_of}
 use Rattle.refusal.specs.declared.Refusal.{Refusal}
 use Rattle.msc_state.specs.declared.State.{State}
 use Rattle.msc_state.specs.States.{bad_state, is_too_short, feed_refusal}
@@ -88,9 +88,9 @@ module _ (f : FedPlaces) (none : places_refusal f.state (length f.lengths) (leng
   enough =
       let n = clean (short 1 (length f.lengths) ∷ short 1 (length f.percents) ∷ []) few-none in
       record {
-        state-long = (readable f.state numbers-none).long;
-        lengths-long = ltb-false (length f.lengths) 1 (held_not 7 (ltb (length f.lengths) 1) (zeroed n));
-        percents-long = ltb-false (length f.percents) 1 (held_not 7 (ltb (length f.percents) 1) (zeroed (later n)));
+        state_long = (readable f.state numbers-none).long;
+        lengths_long = ltb-false (length f.lengths) 1 (held_not 7 (ltb (length f.lengths) 1) (zeroed n));
+        percents_long = ltb-false (length f.percents) 1 (held_not 7 (ltb (length f.percents) 1) (zeroed (later n)));
       }
 
 -- ---- the number of a call
@@ -106,30 +106,30 @@ module _ (soft : List ℤ) (b : Buffers) (f : FedPlaces) where
   before = places_refusal f.state (length f.lengths) (length f.percents)
 
   -- the checks of the buffers and of the symbol
-  abbrev buffers-are : List ℕ
-  buffers-are = check 8 (is_too_short s.channel.description (lengths_of b)) ∷ check 9 (ltb (length soft) symbol_bits) ∷ []
+  abbrev buffers_are : List ℕ
+  buffers_are = check 8 (is_too_short s.channel.description (lengths_of b)) ∷ check 9 (ltb (length soft) symbol_bits) ∷ []
 
   -- all checks after those of the numbers
   abbrev rest : ℕ
-  rest = or_else (check 10 (bad_state s)) (first_of (short 1 (length f.lengths) ∷ short 1 (length f.percents) ∷ buffers-are))
+  rest = or_else (check 10 (bad_state s)) (first_of (short 1 (length f.lengths) ∷ short 1 (length f.percents) ∷ buffers_are))
 
   numbers-first : number_fed soft b f ≡ or_else (state_refusal f.state) rest
   unfolding feed_number state_refusal
-  numbers-first = first-append (state_checks f.state) (check 10 (bad_state s) ∷ short 1 (length f.lengths) ∷ short 1 (length f.percents) ∷ buffers-are)
+  numbers-first = first-append (state_checks f.state) (check 10 (bad_state s) ∷ short 1 (length f.lengths) ∷ short 1 (length f.percents) ∷ buffers_are)
 
-  few_next : rest ≡ or_else (check 10 (bad_state s)) (or_else few (first_of buffers-are))
-  few_next = ap (or_else (check 10 (bad_state s))) (first-append (short 1 (length f.lengths) ∷ short 1 (length f.percents) ∷ []) buffers-are)
+  few_next : rest ≡ or_else (check 10 (bad_state s)) (or_else few (first_of buffers_are))
+  few_next = ap (or_else (check 10 (bad_state s))) (first-append (short 1 (length f.lengths) ∷ short 1 (length f.percents) ∷ []) buffers_are)
 
   -- both places are there: the handler's own refusal
   rest_none : few ≡ 0 → rest ≡ refusal_in s soft b
   unfolding feed_refusal
-  rest_none z = few_next ∙ ap (λ (n : ℕ). or_else (check 10 (bad_state s)) (or_else n (first_of buffers-are))) z
+  rest_none z = few_next ∙ ap (λ (n : ℕ). or_else (check 10 (bad_state s)) (or_else n (first_of buffers_are))) z
 
   -- one is not: 8, after 10
   rest_few : (few ≡ 0 → ⊥) → rest ≡ no_places s
   rest_few h =
       let each = same_check (ltb (length f.lengths) 1) (same_check (ltb (length f.percents) 1) no_more) in
-      few_next ∙ ap (or_else (check 10 (bad_state s))) (or_given few (first_of buffers-are) h ∙ only 7 each h)
+      few_next ∙ ap (or_else (check 10 (bad_state s))) (or_given few (first_of buffers_are) h ∙ only 7 each h)
 
   number_away : (n : ℕ) → few ≡ n → (before ≡ 0 → ⊥) → before ≡ number_fed soft b f
   unfolding places_refusal
@@ -144,7 +144,7 @@ module _ (soft : List ℤ) (b : Buffers) (f : FedPlaces) where
   pub turned_away : (k : ℕ) → k ≡ before → (k ≡ 0 → ⊥) → FeedCall soft b f k b f
   turned_away k e h =
       let m = e ∙ number_away few refl (λ z. h (e ∙ z)) in
-      record { answer = m; left = untouched_by (FeedWritten soft b f b f) (FeedUntouched b f b f) (number_fed soft b f) (λ z. h (m ∙ z)) (record { buffers-are = refl; places-are = refl }) }
+      record { answer = m; left = untouched_by (FeedWritten soft b f b f) (FeedUntouched b f b f) (number_fed soft b f) (λ z. h (m ∙ z)) (record { buffers_are = refl; places_are = refl }) }
 
   number_is : before ≡ 0 → number_fed soft b f ≡ refusal_in s soft b
   number_is none = numbers-first ∙ or_other (state_refusal f.state) rest (numbers-none f none) ∙ rest_none (few-none f none)
@@ -167,7 +167,7 @@ pub beside_read : (state : List ℕ) (lengths percents : ℕ) (r : Reading) → 
 unfolding places_refusal
 beside_read state lengths percents r e t q f =
     let h = held (state_refusal state) (state_in state) r e t q in
-    f ∙ ap (λ (u : State). outcome (beside_of u lengths percents) u) h.state-is ∙ ap (λ (n : ℕ). outcome n (state_in state)) (sym (or_other (state_refusal state) (beside_of (state_in state) lengths percents) h.none))
+    f ∙ ap (λ (u : State). outcome (beside_of u lengths percents) u) h.state_is ∙ ap (λ (n : ℕ). outcome n (state_in state)) (sym (or_other (state_refusal state) (beside_of (state_in state) lengths percents) h.none))
 
 -- ---- the handler's answer, told
 
@@ -184,12 +184,12 @@ module _ {soft : List ℤ} {b : Buffers} (f : FedPlaces) (none : places_refusal 
       left_by : (n : ℕ) → number_fed soft b f ≡ n → unless_refused n (FeedWritten soft b f b' f') (FeedUntouched b f b' f')
       left_by zero e =
           let q : f' ≡ fed_put r f = t.places ∙ where_done _ (fed_put r f) f (same ∙ e) in
-          record { fed = r; promise = promised; state-is = ap (λ (g : FedPlaces). g.state) q; lengths-are = ap (λ (g : FedPlaces). g.lengths) q; percents-are = ap (λ (g : FedPlaces). g.percents) q }
+          record { fed = r; promise = promised; state_is = ap (λ (g : FedPlaces). g.state) q; lengths_are = ap (λ (g : FedPlaces). g.lengths) q; percents_are = ap (λ (g : FedPlaces). g.percents) q }
       left_by (suc n) e =
           let one : number_fed soft b f ≡ 0 → ⊥ = λ y. absurd (omega (arith, e, y)) in
           record {
-            buffers-are = (fed-refuses (state_in f.state) soft b promised (λ y. one (number_is soft b f none ∙ y))).1;
-            places-are = t.places ∙ where_refused _ (fed_put r f) f (λ y. one (sym same ∙ y));
+            buffers_are = (fed-refuses (state_in f.state) soft b promised (λ y. one (number_is soft b f none ∙ y))).1;
+            places_are = t.places ∙ where_refused _ (fed_put r f) f (λ y. one (sym same ∙ y));
           }
 
 -- an answer, as it is written

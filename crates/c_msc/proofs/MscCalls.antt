@@ -1,14 +1,14 @@
 -- Set-up and reset: from the handlers' answers to a number, and to a state in its places.
 -- Assumes nothing.
 use mathlib.Core.Path.{◌≡◌, refl, sym, ap, ◌∙◌, subst}
-use mathlib.Core.List.{List, [], ◌∷◌, ◌++◌}
+use mathlib.Core.List.{List, [], ◌∷◌}
 use Prim.Native.Nat.{ℕ, zero, suc, ◌<◌, ◌≤◌}
 use native.Mathlib.Omega.{arith}
 use borrow.Author.Tests.{lt-ltb, le-ltb}
 use lib.Dec.{ltb}
-use lib.ListN.{length, drop}
+use lib.ListN.{length}
 use lib.IntN.{ℤ}
-use Rattle.refusal.specs.Outcome.{outcome, unless_refused, number_of, or_else}
+use Rattle.refusal.specs.Outcome.{outcome, number_of, or_else}
 use Rattle.refusal.proofs.Checks.{among, last-check, same_check, no_more, passed_by}
 use Rattle.refusal.proofs.Laws.{or_else_assoc, or_else-zero, or_given, or_other, or_either, number_of_lem, where_done, where_refused, refused-number, is_refusal, given_number, given_value}
 use Rattle.refusal.specs.declared.Refusal.{Refusal}
@@ -40,10 +40,10 @@ away n s r e x q =
 
 pub record Held (n : ℕ) (s t : State) : Type 0 where
   pub none : n ≡ 0
-  pub state-is : t ≡ s
+  pub state_is : t ≡ s
 
 pub held : (n : ℕ) (s : State) (r : Reading) → read_as r ≡ outcome n s → (t : State) → r ≡ Read t → Held n s t
-held n s r e t q = let z = sym (ap read_as q) ∙ e in record { none = given_number n s t z; state-is = given_value n s t z }
+held n s r e t q = let z = sym (ap read_as q) ∙ e in record { none = given_number n s t z; state_is = given_value n s t z }
 
 -- no places for the state: the description's refusal, else 8, whatever the ring is
 pub refused_eight : (n k : ℕ) → k ≡ n → (k ≡ 0 → ⊥) → k ≡ or_else n 8
@@ -63,7 +63,7 @@ no_state-is d ring state h =
 -- refused before anything is touched
 turned_away : {d : Description} {ring : List ℤ} {state : List ℕ} (n k : ℕ) → k ≡ n → (n ≡ 0 → ⊥) → Readied n d ring state k ring state
 turned_away {d} {ring} {state} n k e h =
-    record { answer = e; ring-is = sym (where_refused n (cleared d ring) ring h); state-is = sym (where_refused n (state_put (fresh_state d) state) state h) }
+    record { answer = e; ring_is = sym (where_refused n (cleared d ring) ring h); state_is = sym (where_refused n (state_put (fresh_state d) state) state h) }
 
 pub no_places_lem : {d : Description} {ring : List ℤ} (state : List ℕ) (k : ℕ) → length state < 11 → k ≡ no_state d → Readied (set_up_number d (length ring) (length state)) d ring state k ring state
 no_places_lem {d} {ring} state k h e =
@@ -77,13 +77,13 @@ places d ring state h = rw (le-ltb _ _ h) (sym (or_else-zero (set_up_refusal d r
 -- a state written where there are eleven places
 pub record Written (s : State) (before : List ℕ) (k : ℕ) (after : List ℕ) : Type 0 where
   pub number_is : k ≡ 0
-  pub state-is : after ≡ state_put s before
+  pub state_is : after ≡ state_put s before
 
 eleven : (before : List ℕ) → 11 ≤ length before → short 11 (length before) ≡ 0
 eleven before l = rw (le-ltb _ _ l) refl
 
 pub written : (s : State) (before : List ℕ) → 11 ≤ length before → {k : ℕ} {after : List ℕ} → Wrote (short 11 (length before)) 11 (numbers_of s) before after k → Written s before k after
-written s before l w = record { number_is = w.answer ∙ eleven before l; state-is = w.places ∙ where_done (short 11 (length before)) (state_put s before) before (eleven before l) }
+written s before l w = record { number_is = w.answer ∙ eleven before l; state_is = w.places ∙ where_done (short 11 (length before)) (state_put s before) before (eleven before l) }
 
 -- what was made, in its places
 pub made_refused : (r : SetUp) (before : List ℕ) {k : ℕ} → k ≡ number_of (judged_as r.answer) → (k ≡ 0 → ⊥) → Wrote (number_of (judged_as r.answer)) 11 (numbers_of r.state) before before k
@@ -95,8 +95,8 @@ made_given r before e z l {after} {number} w = subst (λ (n : ℕ). Wrote n 11 (
 
 module _ {d : Description} {other : State} {ring : List ℤ} {r : SetUp} {ring' : List ℤ} {state : List ℕ} where
   made_by : (n : ℕ) → Prepared n d other ring r ring' → {k : ℕ} {state' : List ℕ} → Wrote n 11 (numbers_of r.state) state state' k → Readied n d ring state k ring' state'
-  made_by zero p w = record { answer = w.answer; ring-is = p.ring-is; state-is = w.places ∙ ap (λ (s : State). state_put s state) p.state }
-  made_by (suc n) p w = record { answer = w.answer; ring-is = p.ring-is; state-is = w.places }
+  made_by zero p w = record { answer = w.answer; ring_is = p.ring_is; state_is = w.places ∙ ap (λ (s : State). state_put s state) p.state }
+  made_by (suc n) p w = record { answer = w.answer; ring_is = p.ring_is; state_is = w.places }
 
   pub made : {n : ℕ} (m : ℕ) → n ≡ m → Prepared n d other ring r ring' → {k : ℕ} {state' : List ℕ} → Wrote (number_of (judged_as r.answer)) 11 (numbers_of r.state) state state' k → Readied m d ring state k ring' state'
   made {n} m e p {k} {state'} w =

@@ -32,9 +32,9 @@ places_refusal state lengths percents = or_else (state_refusal state) (beside_of
 
 -- places for a symbol's answer
 pub record EnoughPlaces (f : FedPlaces) : Type 0 where
-  pub state-long : 11 ≤ length f.state
-  pub lengths-long : 1 ≤ length f.lengths
-  pub percents-long : 1 ≤ length f.percents
+  pub state_long : 11 ≤ length f.state
+  pub lengths_long : 1 ≤ length f.lengths
+  pub percents_long : 1 ≤ length f.percents
 
 -- an answer in its places
 abbrev pub fed_put : Fed → FedPlaces → FedPlaces

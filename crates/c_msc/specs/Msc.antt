@@ -15,8 +15,8 @@ use Rattle.c_state.specs.Numbers.{state_in, out_of_range, state_put}
 -- refused by n with all as it was, or done: the ring's need filled with zeros, and a fresh state
 pub record Readied (n : ℕ) (d : Description) (ring : List ℤ) (state : List ℕ) (number : ℕ) (ring' : List ℤ) (state' : List ℕ) : Type 0 where
   pub answer : number ≡ n
-  pub ring-is : ring' ≡ unless_refused n (cleared d ring) ring
-  pub state-is : state' ≡ unless_refused n (state_put (fresh_state d) state) state
+  pub ring_is : ring' ≡ unless_refused n (cleared d ring) ring
+  pub state_is : state' ≡ unless_refused n (state_put (fresh_state d) state) state
 
 -- set-up: 1 to 7, then 8, for the ring or for fewer than eleven places
 unfoldable pub set_up_number : Description → ℕ → ℕ → ℕ
@@ -61,16 +61,16 @@ percent_put (Refused n) xs = xs
 
 -- refused: nothing changed
 pub record FeedUntouched (b : Buffers) (f : FedPlaces) (b' : Buffers) (f' : FedPlaces) : Type 0 where
-  pub buffers-are : b' ≡ b
-  pub places-are : f' ≡ f
+  pub buffers_are : b' ≡ b
+  pub places_are : f' ≡ f
 
 -- done: as the handler promises, and what it answers in its places
 pub record FeedWritten (soft : List ℤ) (b : Buffers) (f : FedPlaces) (b' : Buffers) (f' : FedPlaces) : Type 0 where
   pub fed : Fed
   pub promise : FeedPromise (state_in f.state) soft b fed b'
-  pub state-is : f'.state ≡ state_put fed.state f.state
-  pub lengths-are : f'.lengths ≡ bytes_in fed.answer ∷ drop 1 f.lengths
-  pub percents-are : f'.percents ≡ percent_put fed.answer f.percents
+  pub state_is : f'.state ≡ state_put fed.state f.state
+  pub lengths_are : f'.lengths ≡ bytes_in fed.answer ∷ drop 1 f.lengths
+  pub percents_are : f'.percents ≡ percent_put fed.answer f.percents
 
 -- the number of a call
 abbrev pub number_fed : List ℤ → Buffers → FedPlaces → ℕ

@@ -1,4 +1,6 @@
 // MSC handling over plain numbers: the state as eleven of them in the caller's array, a symbol's answer in places of its own.
+#![tactic(auto)]
+
 ghost use Rattle.std.specs.Prelude.{◌≡◌, ◌≤◌, length};
 ghost use Rattle.refusal.specs.Outcome.{outcome, number_of};
 ghost use Rattle.fec_protection.specs.Answers.{judged_as};

@@ -1,4 +1,6 @@
 // A sub-channel's state as eleven numbers in the caller's array, written and read back.
+#![tactic(auto)]
+
 ghost use Rattle.std.specs.Prelude.{◌≡◌, true, cond, ◌≤◌, length};
 ghost use Rattle.refusal.specs.Outcome.{outcome};
 ghost use Rattle.c_description.specs.Places.{short, Wrote};
@@ -10,7 +12,7 @@ use msc_state::{Channel, State};
 use refusal::Refusal;
 
 // A state, or turned away: 8, 10.
-#[derive(Drop)]
+#[derive(Clone, Copy)]
 pub enum Reading {
     Read(State),
     Refused(Refusal),

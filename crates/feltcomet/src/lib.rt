@@ -1,5 +1,7 @@
 // The library for C and Rust: each export is a bare call of a function below with the same promise. include/feltcomet.h declares and explains them.
 // A refusal is returned as its number, 0 where the call is done; after a refusal the caller's buffers are as they were.
+#![tactic(auto)]
+
 ghost use Rattle.std.specs.Prelude.{◌≡◌};
 ghost use Rattle.spec_en300401.specs.Dispersal.{disperse};
 ghost use Rattle.spec_en300401.specs.Puncturing.{kept_size};
