@@ -31,7 +31,7 @@ Highest xs n e = T (every (under (survivor xs n e) e) 0 (list_of 64 (survivor xs
 -- the best of all paths has the best score
 best_top : {xs : List ℤ} {n s : ℕ} {bs : List Bool} → Best xs n free_end s bs → Top xs n (score_of xs s bs)
 unfolding Wins Permits
-best_top {xs} {n} {s} {bs} b = record { start = s; path = bs; start-lt = b.start-lt; long = b.long; scores = refl; most = λ s' h bs' l. most s' bs' (b.wins s' h bs' l tt) }
+best_top {xs} {n} {s} {bs} b = record { start = s; path = bs; start_lt = b.start_lt; long = b.long; scores = refl; most = λ s' h bs' l. most s' bs' (b.wins s' h bs' l tt) }
   where
     most : (s' : ℕ) (bs' : List Bool) → Wins xs s bs s' bs' → score_of xs s' bs' ≤ℤ score_of xs s bs
     most s' bs' w = ⊎_elim (λ l. parts_le (score_of xs s' bs') (score_of xs s bs) (omega (arith, lt_parts l))) (λ e. subst (λ (z : ℤ). z ≤ℤ score_of xs s bs) (sym e.0) (≤ℤ_refl (score_of xs s bs))) w
@@ -53,7 +53,7 @@ answer {ends} {xs} e h b s bits p m q = record { gives = gives; only = λ f. (bi
           bits_are = p;
           total = pos 0;
           subtracted = s;
-          metric-is = q ∙ ap (λ (z : ℤ). z -ℤ pos 0) (sym (into_score xs (steps xs) e h));
+          metric_is = q ∙ ap (λ (z : ℤ). z -ℤ pos 0) (sym (into_score xs (steps xs) e h));
         }
 
 pub zero-answer : (xs : List ℤ) → Subtracted xs (steps xs) (pos 0) → (bits : List ℕ) → bits ≡ reverse (map bit_n (bits_into xs (steps xs) 0)) → (m : ℤ) → m ≡ survivor xs (steps xs) 0 -ℤ pos 0 → Answers zero_end xs bits m

@@ -4,21 +4,20 @@ use mathlib.Core.Path.{◌≡◌, refl, sym, ap, ap₂, ◌∙◌}
 use mathlib.Core.Bool.{Bool, true, false, cond}
 use mathlib.Core.List.{List, [], ◌∷◌, ◌++◌, append_assoc}
 use mathlib.Core.Option.{Option, none, some}
-use Prim.Native.Nat.{ℕ, zero, suc, ◌+◌, ◌*◌, ◌/◌, ◌%◌, ◌<◌, ◌≤◌}
+use Prim.Native.Nat.{ℕ, zero, suc, ◌+◌, ◌*◌, ◌/◌, ◌%◌}
 use native.Mathlib.Omega.{arith}
-use borrow.Author.Tests.{eq-eqb, ne_eqb, eqb-true, eqb-false}
+use borrow.Author.Tests.{ne_eqb}
 use lib.Dec.{eqb}
-use lib.ListN.{length, take, drop, length-append, length-drop}
-use lib.Seq.{take-append-le, drop-append-le, take_at, drop_at}
+use lib.ListN.{length, drop, length-append, length-drop}
+use lib.Seq.{take-append-le, drop-append-le}
 use Rattle.laws.specs.Words.{pick_n}
 use Rattle.spec_en300401.specs.Fib.{field_of}
-use Rattle.spec_en300401.specs.Organisation.{Service, Entry, sub-channel, service, entries_of}
+use Rattle.spec_en300401.specs.Organisation.{Service, Entry, sub_channel, service, entries_of}
 use Rattle.spec_en300401.specs.Directory.{fibs_in, counted, broken_fibs, Broken, or_broken, first_broken, place_for}
-use Rattle.fic_directory_places.specs.Places.{Held, held, services_of}
-use Rattle.fic_directory.specs.declared.Reading.{Reading}
+use Rattle.fic_directory_places.specs.Places.{Held, services_of}
 use Rattle.fic_directory.specs.Promises.{Entered, entered, put_at, put, put_all, fibs_of, entries_of_fibs, read_into, reading_of}
 use Rattle.fic_directory.proofs.Figs.{all_append}
-use Rattle.thm_directory.specs.Theorems.{joined, ReadsOn, CallByCall}
+use Rattle.thm_directory.specs.Theorems.{ReadsOn, CallByCall}
 
 -- ---- the FIBs of bytes behind whole FIBs
 
@@ -45,7 +44,7 @@ entries_append (f ∷ fs) gs = ap (λ (es : List Entry). entries_of f ++ es) (en
 -- ---- what was left out before is only added
 
 abbrev more : ℕ → Entered → Entered
-more n e = entered e.numbers (n + e.left-out)
+more n e = entered e.numbers (n + e.left_out)
 
 put_at_more : (n : ℕ) (o : Option ℕ) (s : Service) (e : Entered) → put_at o s (more n e) ≡ more n (put_at o s e)
 put_at_more n none s e = ap (entered e.numbers) (omega arith)
@@ -53,7 +52,7 @@ put_at_more n (some p) s e = refl
 
 put_more : (n : ℕ) (x : Entry) (e : Entered) → put x (more n e) ≡ more n (put x e)
 unfolding put
-put_more n (sub-channel id c) e = refl
+put_more n (sub_channel id c) e = refl
 put_more n (service s) e = put_at_more n (place_for s (services_of e.numbers.services)) s e
 
 all_more : (n : ℕ) (xs : List Entry) (e : Entered) → put_all xs (more n e) ≡ more n (put_all xs e)
@@ -121,19 +120,19 @@ module _ (front back : List ℕ) (h : Held) (whole : length front % 32 ≡ 0) wh
   abbrev between : Held
   between = (read_into front h).numbers
 
-  run : read_into (front ++ back) h ≡ more (read_into front h).left-out (read_into back between)
+  run : read_into (front ++ back) h ≡ more (read_into front h).left_out (read_into back between)
   run =
       ap (λ (fs : List (List ℕ)). put_all (entries_of_fibs fs) (entered h 0)) (fibs-append front back whole)
       ∙ ap (λ (es : List Entry). put_all es (entered h 0)) (entries_append (fibs_of front) (fibs_of back))
       ∙ all_append (entries_of_fibs (fibs_of front)) (entries_of_fibs (fibs_of back)) (entered h 0)
-      ∙ ap (λ (n : ℕ). put_all (entries_of_fibs (fibs_of back)) (entered between n)) (zero_more (read_into front h).left-out)
-      ∙ all_more (read_into front h).left-out (entries_of_fibs (fibs_of back)) (entered between 0)
+      ∙ ap (λ (n : ℕ). put_all (entries_of_fibs (fibs_of back)) (entered between n)) (zero_more (read_into front h).left_out)
+      ∙ all_more (read_into front h).left_out (entries_of_fibs (fibs_of back)) (entered between 0)
     where
       zero_more : (n : ℕ) → n ≡ n + 0
       zero_more n = omega arith
 
-  fibs-are : length (front ++ back) / 32 ≡ length front / 32 + length back / 32
-  fibs-are = ap (λ (k : ℕ). k / 32) (length-append front back) ∙ omega arith
+  fibs_are : length (front ++ back) / 32 ≡ length front / 32 + length back / 32
+  fibs_are = ap (λ (k : ℕ). k / 32) (length-append front back) ∙ omega arith
 
   brokens_are : broken_fibs (fibs_of (front ++ back)) ≡ broken_fibs (fibs_of front) + broken_fibs (fibs_of back)
   brokens_are = ap broken_fibs (fibs-append front back whole) ∙ brokens_append (fibs_of front) (fibs_of back)
@@ -167,7 +166,7 @@ module _ (front back : List ℕ) (h : Held) (whole : length front % 32 ≡ 0) wh
       let o : (first_broken 0 (fibs_of (front ++ back))).offset ≡ pick_n a (pick_n b 0 late.offset) (first_broken 0 (fibs_of front)).offset = ap (λ (x : Broken). x.offset) first-is ∙ offset_of a b none-broken late (first_broken 0 (fibs_of front)) in
       record {
         numbers = ap (λ (e : Entered). e.numbers) run;
-        reading = (λ i. record { fibs = fibs-are i; broken = brokens_are i; first_fib = f i; first_offset = o i; left_out = (run i).left-out });
+        reading = (λ i. record { fibs = fibs_are i; broken = brokens_are i; first_fib = f i; first_offset = o i; left_out = (run i).left_out });
       }
 
 pub call_by_call : CallByCall

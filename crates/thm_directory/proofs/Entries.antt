@@ -1,33 +1,33 @@
 -- Which entries count, what set-up says of a short form, and that the FIC handler writes FIBs.
 -- Assumes nothing.
 use mathlib.Core.Path.{◌≡◌, refl, sym, ap, ◌∙◌, subst}
-use mathlib.Core.Bool.{Bool, true, false, cond}
+use mathlib.Core.Bool.{Bool, false}
 use mathlib.Core.List.{List, [], ◌∷◌, ◌++◌, append_assoc}
 use mathlib.Core.Option.{Option, none, some}
 use Prim.Native.Nat.{ℕ, zero, suc, ◌+◌, ◌*◌, ◌/◌, ◌%◌, ◌<◌, ◌≤◌}
 use native.Mathlib.Omega.{arith}
 use native.Mathlib.Nat.{mod-lt}
 use borrow.Author.Tests.{lt-ltb, le-ltb, ne_eqb}
-use lib.Dec.{T, eqb, ltb, eqb→eq}
-use lib.ListN.{length, get_or, set, take, drop, length-set, length-append}
+use lib.Dec.{T, eqb, eqb→eq}
+use lib.ListN.{length, get_or, take, drop, length-set, length-append}
 use lib.Seq.{get_or-set_same, get_or-set_other, take_at, drop_at}
 use Rattle.laws.specs.Tables.{every}
 use Rattle.laws.specs.Lists.{find}
 use Rattle.laws.proofs.Tables.{rule_at}
 use Rattle.refusal.specs.Outcome.{check, first_of, or_else}
-use Rattle.spec_en300401.specs.Fib.{Fig, Field, field_from, field_end, broken_at, before as with-fig, end_marker, type_in, length_in}
+use Rattle.spec_en300401.specs.Fib.{Fig, field_from, broken_at, before as with-fig, end_marker, type_in, length_in}
 use Rattle.spec_en300401.specs.Puncturing.{kept_size}
 use Rattle.spec_en300401.specs.Uep.{Row, uep_table, no_row, is_for, uep_row, regions_of, uep_profile}
 use Rattle.spec_en300401.proofs.Uep.{uep_law}
-use Rattle.spec_en300401.specs.Organisation.{SubChannel, Service, Entry, sub-channel, service, start_in, short_form}
-use Rattle.spec_en300401.specs.Directory.{Listed, place_for, put_at, enter, enter_all, fibs_in}
+use Rattle.spec_en300401.specs.Organisation.{SubChannel, Service, Entry, sub_channel, service, start_in, short_form}
+use Rattle.spec_en300401.specs.Directory.{Listed, place_for, put_at, enter, enter_all}
 use Rattle.fec_protection.specs.Refusals.{is_none, profile_of, uep_none, row_refusals, row_refusal_of, outside, uep_shape, shape_refusals, refusal_of}
 use Rattle.fec_protection.proofs.Profiles.{refusal_split}
 use Rattle.fec_protection.proofs.Shapes.{uep-place}
 use Rattle.fic_handler.specs.Blocks.{written, total}
 use Rattle.fic_handler.proofs.Run.{written-length}
 use Rattle.fic_directory_places.specs.Promises.{description_of}
-use Rattle.thm_directory.specs.Entries.{NotFor, no_more, other_sub, a_service, LaterWins, header_of, bytes_of, WholeFigs, none_there_lem, one_more, BeforeBroken, ShortAccepted, HandlerWrites}
+use Rattle.thm_directory.specs.Entries.{NotFor, no_more, other_sub, a_service, LaterWins, header_of, bytes_of, one_more, BeforeBroken, ShortAccepted, HandlerWrites}
 use Rattle.thm_directory.proofs.Calls.{length-fibs}
 use Rattle.thm_directory.proofs.Same.{enter-append}
 
@@ -39,7 +39,7 @@ list_long (some p) s l = refl
 
 enter-long : (x : Entry) (l : Listed) → length (enter x l).directory.subs ≡ length l.directory.subs
 unfolding enter
-enter-long (sub-channel id c) l = length-set l.directory.subs id (some c)
+enter-long (sub_channel id c) l = length-set l.directory.subs id (some c)
 enter-long (service s) l = ap length (list_long (place_for s l.directory.services) s l)
 
 all-long : (es : List Entry) (l : Listed) → length (enter_all es l).directory.subs ≡ length l.directory.subs
@@ -50,15 +50,15 @@ all-long (x ∷ es) l = all-long es (enter x l) ∙ enter-long x l
 kept : {id : ℕ} {fs : List Entry} → NotFor id fs → (l : Listed) → get_or (enter_all fs l).directory.subs id none ≡ get_or l.directory.subs id none
 unfolding enter_all enter
 kept no_more l = refl
-kept {id} (other_sub {j} {c} {es} n r) l = kept r (enter (sub-channel j c) l) ∙ get_or-set_other l.directory.subs j id (some c) none n
+kept {id} (other_sub {j} {c} {es} n r) l = kept r (enter (sub_channel j c) l) ∙ get_or-set_other l.directory.subs j id (some c) none n
 kept {id} (a_service {s} {es} r) l = kept r (enter (service s) l) ∙ ap (λ (xs : List (Option SubChannel)). get_or xs id none) (list_long (place_for s l.directory.services) s l)
 
 pub later_wins : LaterWins
 unfolding enter_all enter
 later_wins id c es fs l n h =
     let m = enter_all es l in
-    ap (λ (k : Listed). get_or k.directory.subs id none) (enter-append es (sub-channel id c ∷ fs) l)
-    ∙ kept n (enter (sub-channel id c) m) ∙ get_or-set_same m.directory.subs id (some c) none (omega (arith, all-long es l))
+    ap (λ (k : Listed). get_or k.directory.subs id none) (enter-append es (sub_channel id c ∷ fs) l)
+    ∙ kept n (enter (sub_channel id c) m) ∙ get_or-set_same m.directory.subs id (some c) none (omega (arith, all-long es l))
 
 -- ---- a broken FIG
 
@@ -129,4 +129,4 @@ handler_writes xs n before after r p =
     let out = take (32 * total p.block n) after.fibs in
     let is : out ≡ written p.block n = ap (take (32 * total p.block n)) p.fibs ∙ take_at (written p.block n) (drop (32 * total p.block n) before.fibs) (32 * total p.block n) long in
     let size : length out ≡ 32 * total p.block n = ap length is ∙ long in
-    record { length-is = size; fibs-are = length-fibs (length out / 32) out ∙ omega (arith, size) }
+    record { length_is = size; fibs_are = length-fibs (length out / 32) out ∙ omega (arith, size) }

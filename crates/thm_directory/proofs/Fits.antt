@@ -1,28 +1,28 @@
 -- Every entry of a FIB is within the bits that hold it.
 -- Assumes nothing.
-use mathlib.Core.Path.{◌≡◌, refl, sym, ap, ◌∙◌, subst}
+use mathlib.Core.Path.{◌≡◌, refl}
 use mathlib.Core.Bool.{Bool, true, false, cond}
 use mathlib.Core.List.{List, [], ◌∷◌, ◌++◌}
 use Prim.Native.Nat.{ℕ, zero, suc, ◌+◌, ◌*◌, ◌/◌, ◌%◌, ◌^◌, ◌<◌, ◌≤◌}
 use native.Mathlib.Omega.{arith}
 use native.Mathlib.Nat.{div-le_self, mod-lt}
 use borrow.Author.Tests.{ltb-true, ltb-false}
-use lib.Dec.{T, eqb, ltb, ltb→lt}
+use lib.Dec.{eqb, ltb, ltb→lt}
 use lib.ListN.{length, get_or, take, drop, length-take, length-drop}
 use Rattle.laws.specs.Bits.{Below, AreBytes}
-use Rattle.laws.specs.Tables.{both, every}
+use Rattle.laws.specs.Tables.{both}
 use Rattle.laws.proofs.Tables.{rule_at, both_left, both_right}
 use Rattle.laws.proofs.Bits.{below_tail, below-head, below-nil, below-cons, below-take, below-drop}
-use Rattle.spec_en300401.specs.Fib.{Fig, field_from, field_of, field_end, broken_at, before, end_marker, type_in, length_in}
+use Rattle.spec_en300401.specs.Fib.{field_from, field_of, field_end, broken_at, before, end_marker, type_in, length_in}
 use Rattle.spec_en300401.specs.Uep.{Row, uep_table, no_row}
-use Rattle.spec_en300401.specs.Organisation.{SubChannel, Service, Entry, sub-channel, service, units_of, rate_of, sub_ch_id, start_in, short_form, long_form, short_entry, sub_channels, number_of, pairs_of, sid_bytes, component_bytes, entry_bytes, service_in, services_in, extended, type_zero, entries_in, entries_of_all, entries_of}
+use Rattle.spec_en300401.specs.Organisation.{SubChannel, Service, Entry, sub_channel, service, units_of, rate_of, sub_ch_id, short_form, long_form, short_entry, sub_channels, number_of, pairs_of, sid_bytes, component_bytes, entry_bytes, service_in, services_in, type_zero, entries_in, entries_of_all, entries_of}
 use Rattle.spec_en300401.specs.Directory.{fibs_in}
 use Rattle.fic_directory.specs.Promises.{entries_of_fibs}
 use Rattle.fic_directory.proofs.Services.{length_pairs}
 use Rattle.thm_directory.specs.Theorems.{SubFits, ServiceFits}
 
 pub data EntryFits : Entry → Type 0 where
-  sub-fits : {id : ℕ} {c : SubChannel} → id < 64 → SubFits c → EntryFits (sub-channel id c)
+  sub-fits : {id : ℕ} {c : SubChannel} → id < 64 → SubFits c → EntryFits (sub_channel id c)
   service-fits : {s : Service} → ServiceFits s → EntryFits (service s)
 
 pub data AllFit : List Entry → Type 0 where
@@ -57,7 +57,7 @@ module _ (a b c : ℕ) (ha : a < 256) (hb : b < 256) (hc : c < 256) where
   short_entry-fits : AllFit (short_entry a b c)
   short_entry-fits = go (ltb c 64)
     where
-      go : (t : Bool) → AllFit (cond t (sub-channel (sub_ch_id a) (short_form a b c) ∷ []) [])
+      go : (t : Bool) → AllFit (cond t (sub_channel (sub_ch_id a) (short_form a b c) ∷ []) [])
       go true = let i : sub_ch_id a < 64 = omega arith in fit_more (sub-fits i short-fits) fit_none
       go false = fit_none
 
@@ -83,7 +83,7 @@ sub_channels_fit (a ∷ b ∷ c ∷ []) h = go (ltb c 128)
     go false = fit_none
 sub_channels_fit (a ∷ b ∷ c ∷ d ∷ xs) h = go (ltb c 128) (sub_channels_fit (d ∷ xs) (below_tail (below_tail (below_tail h)))) (sub_channels_fit xs (below_tail (below_tail (below_tail (below_tail h)))))
   where
-    go : (t : Bool) → AllFit (sub_channels (d ∷ xs)) → AllFit (sub_channels xs) → AllFit (cond t (short_entry a b c ++ sub_channels (d ∷ xs)) (sub-channel (sub_ch_id a) (long_form a b c d) ∷ sub_channels xs))
+    go : (t : Bool) → AllFit (sub_channels (d ∷ xs)) → AllFit (sub_channels xs) → AllFit (cond t (short_entry a b c ++ sub_channels (d ∷ xs)) (sub_channel (sub_ch_id a) (long_form a b c d) ∷ sub_channels xs))
     go true f g = fit_append (short_entry-fits a b c (below-head h) (below-head (below_tail h)) (below-head (below_tail (below_tail h)))) f
     go false f g = let x : a < 256 = below-head h in let i : sub_ch_id a < 64 = omega arith in fit_more (sub-fits i (long-fits a b c (below-head h) (below-head (below_tail h)) (below-head (below_tail (below_tail h))) d (below-head (below_tail (below_tail (below_tail h)))))) g
 

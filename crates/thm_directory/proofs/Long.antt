@@ -1,7 +1,7 @@
 -- What set-up says of a long form, by its option, level and size.
 -- Assumes nothing.
 use mathlib.Core.Path.{◌≡◌, refl, sym, ap, ◌∙◌, subst}
-use Prim.Native.Nat.{ℕ, zero, suc, ◌+◌, ◌*◌, ◌-◌, ◌/◌, ◌%◌, ◌<◌, ◌≤◌}
+use Prim.Native.Nat.{ℕ, zero, suc, ◌+◌, ◌*◌, ◌/◌, ◌%◌, ◌<◌, ◌≤◌}
 use native.Mathlib.Omega.{arith}
 use native.Mathlib.Nat.{mul-mod_right, div-le_self, div-add-mod, div-eq_of_lt}
 use Rattle.refusal.specs.Outcome.{first_of, or_else}
@@ -11,7 +11,7 @@ use Rattle.spec_en300401.specs.Organisation.{units_of, rate_of}
 use Rattle.spec_en300401.proofs.Puncturing.{sent_in, in_table, kept-size}
 use Rattle.spec_en300401.proofs.Eep.{eep_usable}
 use Rattle.fec_protection.specs.declared.Description.{Description}
-use Rattle.fec_protection.specs.Refusals.{profile_of, eep_row, row_refusals, row_refusal_of, outside, eep_shape, shape_refusals, refusal_of}
+use Rattle.fec_protection.specs.Refusals.{profile_of, eep_row, row_refusals, row_refusal_of, eep_shape, shape_refusals, refusal_of}
 use Rattle.fec_protection.proofs.Profiles.{refusal_split}
 use Rattle.fec_protection.proofs.Rows.{option-refused, first-refused, row_given}
 use Rattle.fec_protection.proofs.Shapes.{size-refused, eep-place}

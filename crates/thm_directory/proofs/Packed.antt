@@ -3,7 +3,7 @@
 use mathlib.Core.Path.{◌≡◌, refl, sym, ap, ◌∙◌, subst}
 use mathlib.Core.Bool.{Bool, true, false, cond}
 use mathlib.Core.List.{List, [], ◌∷◌}
-use mathlib.Core.Option.{Option, none, some}
+use mathlib.Core.Option.{none, some}
 use Prim.Native.Nat.{ℕ, zero, suc, ◌+◌, ◌*◌, ◌/◌, ◌%◌, ◌^◌, ◌<◌, ◌≤◌, min}
 use native.Mathlib.Omega.{arith}
 use native.Mathlib.Nat.{add-mul-div_left, add-mul-mod_self_left, div-eq_of_lt, mod-eq_of_lt, zero-add}
@@ -11,12 +11,11 @@ use borrow.Author.Tests.{eq-eqb, ltb-true, ltb-false}
 use lib.Dec.{eqb, ltb}
 use lib.ListN.{length, get_or, set, length-set, get_or-eq_default}
 use lib.Seq.{sets, get_or-set_same, get_or-set_other, ext_get_or}
-use Rattle.laws.specs.Bits.{Below}
 use Rattle.laws.specs.Words.{pick_n}
 use Rattle.laws.specs.Lists.{list_of}
 use Rattle.laws.proofs.Lists.{length-list_of, list_of-at}
 use Rattle.spec_en300401.specs.Organisation.{SubChannel, Service}
-use Rattle.fic_directory_places.specs.Places.{field, flag_at, sub_word, sub_in, service_head, component_word, service_words, service_at, most_components}
+use Rattle.fic_directory_places.specs.Places.{sub_word, sub_in, service_head, component_word, service_words, service_at}
 use Rattle.thm_directory.specs.Theorems.{SubFits, ServiceFits, SubHeld, ServiceHeld}
 
 -- a value v, below K, over a low part below J

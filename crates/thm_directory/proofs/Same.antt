@@ -1,21 +1,20 @@
 -- Reading into numbers is reading into the directory that they are.
 -- Assumes nothing.
-use mathlib.Core.Path.{◌≡◌, refl, sym, ap, ap₂, ◌∙◌, subst}
+use mathlib.Core.Path.{◌≡◌, refl, sym, ap, ◌∙◌, subst}
 use mathlib.Core.List.{List, [], ◌∷◌, ◌++◌}
 use mathlib.Core.Option.{Option, none, some}
 use mathlib.Core.Bool.{cond}
-use Prim.Native.Nat.{ℕ, zero, suc, ◌+◌, ◌*◌, ◌/◌, ◌%◌, ◌^◌, ◌<◌, ◌≤◌, min}
+use Prim.Native.Nat.{ℕ, suc, ◌+◌, ◌*◌, ◌/◌, ◌%◌, ◌^◌, ◌<◌, ◌≤◌, min}
 use native.Mathlib.Omega.{arith}
 use native.Mathlib.Decide.{ℕ_discrete}
 use lib.ListN.{length, get_or, set, length-set}
 use lib.Seq.{sets, get_or-set_same, get_or-set_other, ext_get_or, length-sets}
-use Rattle.laws.specs.Bits.{AreBytes}
 use Rattle.laws.specs.Lists.{list_of}
 use Rattle.laws.proofs.Lists.{length-list_of, list_of-at}
-use Rattle.spec_en300401.specs.Organisation.{SubChannel, Service, Entry, sub-channel, service, entries_of}
-use Rattle.spec_en300401.specs.Directory.{places, Directory, Listed, place_for, put_at as listAt, enter, enter_all, read_all}
-use Rattle.fic_directory_places.specs.Places.{field, flag_at, sub_word, sub_in, subs_of, service_head, component_word, service_words, service_at, services_of, Held, held, directory_in}
-use Rattle.fic_directory.specs.Promises.{Entered, entered, put_at, put, put_all, fibs_of, entries_of_fibs, read_into}
+use Rattle.spec_en300401.specs.Organisation.{SubChannel, Service, Entry, sub_channel, service, entries_of}
+use Rattle.spec_en300401.specs.Directory.{places, Listed, place_for, put_at as listAt, enter, enter_all, read_all}
+use Rattle.fic_directory_places.specs.Places.{field, flag_at, sub_word, sub_in, subs_of, service_head, component_word, service_words, service_at, services_of, directory_in}
+use Rattle.fic_directory.specs.Promises.{Entered, entered, put_at, put, put_all, fibs_of, entries_of_fibs}
 use Rattle.fic_directory.proofs.Found.{place-below}
 use Rattle.thm_directory.specs.Theorems.{SubFits, ServiceFits, listed_in, ReadIsDirectory}
 use Rattle.thm_directory.proofs.Packed.{sub_held, service-held}
@@ -107,7 +106,7 @@ module _ (xs : List ℕ) (p : ℕ) (s : Service) where
 
 put-long : (x : Entry) (e : Entered) → (length (put x e).numbers.subs ≡ length e.numbers.subs) × (length (put x e).numbers.services ≡ length e.numbers.services)
 unfolding put
-put-long (sub-channel id c) e = (length-set e.numbers.subs id (sub_word c), refl)
+put-long (sub_channel id c) e = (length-set e.numbers.subs id (sub_word c), refl)
 put-long (service s) e = go (place_for s (services_of e.numbers.services))
   where
     go : (o : Option ℕ) → (length (put_at o s e).numbers.subs ≡ length e.numbers.subs) × (length (put_at o s e).numbers.services ≡ length e.numbers.services)

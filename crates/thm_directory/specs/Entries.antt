@@ -1,8 +1,8 @@
 -- Document 02, order 1: which entries count, what set-up says of them, and which bytes are FIBs.
-use Rattle.std.specs.Prelude.{◌≡◌, true, List, [], ◌∷◌, ◌++◌, ℕ, ◌+◌, ◌*◌, ◌/◌, ◌%◌, ◌<◌, ◌≤◌, ℤ, length, get_or, take}
+use Rattle.std.specs.Prelude.{◌≡◌, true, List, [], ◌∷◌, ◌++◌, ℕ, ◌+◌, ◌*◌, ◌%◌, ◌<◌, ◌≤◌, ℤ, length, get_or, take}
 use Rattle.std.proofs.Math.Option.{none, some}
-use Rattle.spec_en300401.specs.Fib.{Fig, Field, field_from, end_marker, length_in}
-use Rattle.spec_en300401.specs.Organisation.{SubChannel, Service, Entry, sub-channel, service, start_in, short_form, units_of, rate_of}
+use Rattle.spec_en300401.specs.Fib.{Fig, field_from, end_marker, length_in}
+use Rattle.spec_en300401.specs.Organisation.{SubChannel, Service, Entry, sub_channel, service, start_in, short_form, units_of, rate_of}
 use Rattle.spec_en300401.specs.Directory.{Listed, enter_all}
 use Rattle.fec_protection.specs.Refusals.{outside, refusal_of}
 use Rattle.fic_handler.specs.declared.Fic.{Fic}
@@ -16,14 +16,14 @@ use Rattle.fic_directory.specs.Promises.{fibs_of}
 -- none of some entries is for a sub-channel
 pub data NotFor (id : ℕ) : List Entry → Type 0 where
   no_more : NotFor id []
-  other_sub : {j : ℕ} {c : SubChannel} {es : List Entry} → (id ≡ j → ⊥) → NotFor id es → NotFor id (sub-channel j c ∷ es)
+  other_sub : {j : ℕ} {c : SubChannel} {es : List Entry} → (id ≡ j → ⊥) → NotFor id es → NotFor id (sub_channel j c ∷ es)
   a_service : {s : Service} {es : List Entry} → NotFor id es → NotFor id (service s ∷ es)
 
 -- whatever was entered before, the last entry for a sub-channel is what the directory has
 abbrev pub LaterWins : Type 0
 LaterWins =
     (id : ℕ) (c : SubChannel) (es fs : List Entry) (l : Listed) → NotFor id fs → id < length l.directory.subs
-    → get_or (enter_all (es ++ (sub-channel id c ∷ fs)) l).directory.subs id none ≡ some c
+    → get_or (enter_all (es ++ (sub_channel id c ∷ fs)) l).directory.subs id none ≡ some c
 
 -- ---- a broken FIG
 
@@ -70,8 +70,8 @@ LongForms = (start o l z : ℕ) → z < 1024 → LongRefused start o l z
 
 -- what it writes is whole FIBs, as many as it answers
 pub record Whole (count : ℕ) (out : List ℕ) : Type 0 where
-  pub length-is : length out ≡ 32 * count
-  pub fibs-are : length (fibs_of out) ≡ count
+  pub length_is : length out ≡ 32 * count
+  pub fibs_are : length (fibs_of out) ≡ count
 
 abbrev pub HandlerWrites : Type 0
 HandlerWrites = (xs : List ℤ) (n : ℕ) (before after : Buffers) (r : Fic) (p : Processed xs n before r after) → Whole (total p.block n) (take (32 * total p.block n) after.fibs)

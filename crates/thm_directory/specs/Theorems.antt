@@ -1,12 +1,11 @@
 -- Document 02, order 1: what holds of a directory over calls, entries and set-up.
-use Rattle.std.specs.Prelude.{◌≡◌, Bool, true, false, cond, List, [], ◌∷◌, ◌++◌, ℕ, ◌+◌, ◌*◌, ◌/◌, ◌%◌, ◌^◌, ◌<◌, ◌≤◌, eqb, length, get_or}
-use Rattle.std.proofs.Math.Option.{Option, none, some}
+use Rattle.std.specs.Prelude.{◌≡◌, List, ◌++◌, ℕ, ◌+◌, ◌%◌, ◌^◌, ◌<◌, ◌≤◌, eqb, length}
+use Rattle.std.proofs.Math.Option.{some}
 use Rattle.std.proofs.lemmas.List.Edits.{sets}
 use Rattle.laws.specs.Bits.{Below, AreBytes}
 use Rattle.laws.specs.Words.{pick_n}
-use Rattle.spec_en300401.specs.Fib.{Fig, field_from, length_in}
-use Rattle.spec_en300401.specs.Organisation.{SubChannel, Service, Entry, sub-channel, service}
-use Rattle.spec_en300401.specs.Directory.{Listed, enter_all, read_all}
+use Rattle.spec_en300401.specs.Organisation.{SubChannel, Service}
+use Rattle.spec_en300401.specs.Directory.{Listed, read_all}
 use Rattle.fic_directory_places.specs.Places.{sub_word, sub_in, service_words, service_at, most_components, Held, directory_in}
 use Rattle.fic_directory.specs.declared.Reading.{Reading}
 use Rattle.fic_directory.specs.Promises.{Entered, entered, fibs_of, read_into, reading_of}
@@ -35,7 +34,7 @@ ServiceHeld = (s : Service) (xs : List ℕ) (i : ℕ) → ServiceFits s → i + 
 
 -- a directory in numbers, and how many entries were left out, front the standard's definitions have them
 abbrev pub listed_in : Entered → Listed
-listed_in e = record { directory = directory_in e.numbers; left-out = e.left-out }
+listed_in e = record { directory = directory_in e.numbers; left_out = e.left_out }
 
 -- the numbers after reading are the directory that the FIBs make of the one before, whatever the numbers were
 abbrev pub ReadIsDirectory : Type 0

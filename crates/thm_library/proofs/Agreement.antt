@@ -27,7 +27,7 @@ use Rattle.thm_library.proofs.Histories.{held_of, same_state, wrote, in_crate, a
 
 pub record Told (c : Seen) (k : Call) : Type 0 where
   pub answer : c.number ≡ 0
-  pub state-is : state_in c.places.state ≡ k.state
+  pub state_is : state_in c.places.state ≡ k.state
   pub told : c.places' ≡ fed_places (state_put k.fed.state c.places.state) (bytes_in k.fed.answer ∷ drop 1 c.places.lengths) (percent_put k.fed.answer c.places.percents)
   pub frame-before : c.frame ≡ k.frame
   pub frame-after : c.frame' ≡ k.frame'
@@ -49,7 +49,7 @@ said_framed (Refused m) n p e = let z : ◌≡◌ {A = ℕ} 0 1 = cc in absurd (
 told_as : {c : Seen} {k : Call} → Told c k → (a : Answer) → k.fed.answer ≡ a → k.fed.state ≡ state_after k.state
     → c.places' ≡ fed_places (state_put (state_after (state_in c.places.state)) c.places.state) (bytes_in a ∷ drop 1 c.places.lengths) (percent_put a c.places.percents)
 told_as {c} {k} t a e m =
-    let s : k.fed.state ≡ state_after (state_in c.places.state) = m ∙ ap state_after (sym t.state-is) in
+    let s : k.fed.state ≡ state_after (state_in c.places.state) = m ∙ ap state_after (sym t.state_is) in
     t.told ∙ (λ i. fed_places (state_put (s i) c.places.state) (bytes_in (e i) ∷ drop 1 c.places.lengths) (percent_put (e i) c.places.percents))
 
 pub told-waits : {c : Seen} {k : Call} → Told c k → Waits k → Waited c
@@ -67,7 +67,7 @@ told-yields {d} {bytes} {c} {k} t y =
 pub told_of : {d : Description} {h : Kept} {soft : List ℤ} {b : Buffers} {f : FedPlaces} {b' : Buffers} {f' : FedPlaces} (call : KeptCall d h soft b f 0 b' f') → Told (seen_of b f 0 b' f') (call_of (state_in h.state) b (wrote call).fed b')
 told_of call =
     let w = wrote call in
-    record { answer = refl; state-is = same_state call; told = λ i. fed_places (w.state-is i) (w.lengths-are i) (w.percents-are i); frame-before = refl; frame-after = refl }
+    record { answer = refl; state_is = same_state call; told = λ i. fed_places (w.state_is i) (w.lengths_are i) (w.percents_are i); frame-before = refl; frame-after = refl }
 
 -- ---- the theorems
 
@@ -96,7 +96,7 @@ library_earlier_forgotten d h h₂ c c₂ x x₂ n n₂ alike soft soft₂ b b�
       size = same.size;
       first = told-yields (told_of call) same.first;
       second = told-yields (told_of call₂) same.second;
-      percent-one = one-percent (sym same.first.answer ∙ same.said_one ∙ same.second.answer);
+      percent_one = one-percent (sym same.first.answer ∙ same.said_one ∙ same.second.answer);
     }
   where
     one-percent : {n m : ℕ} {p q : Float} → gives (framed n p) ≡ gives (framed m q) → p ≡ q

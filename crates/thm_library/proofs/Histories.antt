@@ -22,12 +22,12 @@ use Rattle.c_state.specs.Numbers.{state_in, out_of_range, state_put}
 use Rattle.c_state.proofs.Numbers.{written_read, written-long}
 use Rattle.c_msc.specs.Msc.{Readied, set_up_number, reset_number, FedPlaces, FeedWritten}
 use Rattle.c_msc.proofs.FeedCalls.{feed_taken, feed_done, feed_untouched}
-use Rattle.thm_msc.specs.Calls.{Held, held, Came, came, after, HeldCall, left_in, History, set-up as crate-set-up, reset as crate-reset, fed as crate-fed}
+use Rattle.thm_msc.specs.Calls.{Held, held, Came, came, after, HeldCall, left_in, History, set_up as crate-set-up, reset as crate-reset, fed as crate-fed}
 use Rattle.thm_msc.proofs.Accepting.{never_refused}
 use Rattle.thm_msc.proofs.Fronts.{front_at, left_at, left-long}
 use Rattle.thm_msc.proofs.Histories.{holds, state_sound}
 use Rattle.thm_msc.proofs.Refused.{swapped, ring_swapped}
-use Rattle.thm_library.specs.Calls.{Kept, KeptCall, Numbers, own, others, set_up_refused, reset-refused, feed_refused, LibraryHistory, set-up, reset, refused, fed}
+use Rattle.thm_library.specs.Calls.{Kept, KeptCall, Numbers, own, others, set_up_refused, reset_refused, feed_refused, LibraryHistory, set_up, reset, refused, fed}
 use Rattle.thm_library.specs.Theorems.{LibraryNeverRefused}
 use Rattle.thm_library.proofs.Numbers.{read_same, in_range}
 
@@ -45,15 +45,15 @@ prepared {n} {d} {other} {ring} {ring'} z e =
     record {
       answer = ap (λ (m : ℕ). outcome m tt) (sym z);
       state = ap (λ (m : ℕ). unless_refused m (fresh_state d) other) (sym z);
-      ring-is = e ∙ ap (λ (m : ℕ). unless_refused m (cleared d ring) ring) (sym z);
+      ring_is = e ∙ ap (λ (m : ℕ). unless_refused m (cleared d ring) ring) (sym z);
     }
 
 module _ {n : ℕ} {d : Description} {ring : List ℤ} {state : List ℕ} {number : ℕ} {ring' : List ℤ} {state' : List ℕ} (p : Readied n d ring state number ring' state') where
   pub ring_by : ring' ≡ unless_refused number (cleared d ring) ring
-  ring_by = p.ring-is ∙ ap (λ (m : ℕ). unless_refused m (cleared d ring) ring) (sym p.answer)
+  ring_by = p.ring_is ∙ ap (λ (m : ℕ). unless_refused m (cleared d ring) ring) (sym p.answer)
 
   pub state_by : state' ≡ unless_refused number (state_put (fresh_state d) state) state
-  state_by = p.state-is ∙ ap (λ (m : ℕ). unless_refused m (state_put (fresh_state d) state) state) (sym p.answer)
+  state_by = p.state_is ∙ ap (λ (m : ℕ). unless_refused m (state_put (fresh_state d) state) state) (sym p.answer)
 
 pub set_up_none : (d : Description) (ring state : ℕ) → 0 ≡ set_up_number d ring state → set_up_refusal d ring ≡ 0
 unfolding set_up_number
@@ -83,7 +83,7 @@ numbers-long others l = l
 
 module _ {d : Description} {h : Kept} {soft : List ℤ} {b : Buffers} {f : FedPlaces} {number : ℕ} {b' : Buffers} {f' : FedPlaces} (call : KeptCall d h soft b f number b' f') where
   pub same_state : state_in f.state ≡ state_in h.state
-  same_state = read_same f.state h.state (front_at 0 11 f.state h.state call.state-kept)
+  same_state = read_same f.state h.state (front_at 0 11 f.state h.state call.state_kept)
 
 -- a call that answers 0 is one of the handler's
 module _ {d : Description} {h : Kept} {soft : List ℤ} {b : Buffers} {f : FedPlaces} {b' : Buffers} {f' : FedPlaces} (call : KeptCall d h soft b f 0 b' f') where
@@ -91,13 +91,13 @@ module _ {d : Description} {h : Kept} {soft : List ℤ} {b : Buffers} {f : FedPl
   wrote = feed_done call.promise
 
   pub in_crate : HeldCall d (held_of h) soft b wrote.fed b'
-  in_crate = record { cif-kept = call.cif-kept; ring-kept = call.ring-kept; promise = subst (λ (s : State). FeedPromise s soft b wrote.fed b') (same_state call) wrote.promise }
+  in_crate = record { cif_kept = call.cif_kept; ring_kept = call.ring_kept; promise = subst (λ (s : State). FeedPromise s soft b wrote.fed b') (same_state call) wrote.promise }
 
   pub read-after : state_in f'.state ≡ wrote.fed.state
-  read-after = read_back wrote.fed.state f.state wrote.state-is
+  read-after = read_back wrote.fed.state f.state wrote.state_is
 
 pub as_crates : {d : Description} {h : Kept} {c : Came} → LibraryHistory d h c → History d (held_of h) c
-as_crates {d} (set-up state cif ring ring' state' p) =
+as_crates {d} (set_up state cif ring ring' state' p) =
     subst (λ (s : State). History d (held s cif ring') (came [] [])) (sym (read_back (fresh_state d) state (state_by p)))
     (crate-set-up cif ring (done d) ring' (prepared (set_up_none d (length ring) (length state) p.answer) (ring_by p)) refl)
 as_crates {d} (reset state cif ring ring' state' q p) =
@@ -105,31 +105,31 @@ as_crates {d} (reset state cif ring ring' state' q p) =
     (crate-reset (state_in state) cif ring (done (state_in state).channel.description) ring' q (prepared (reset-none state (length ring) p.answer) (ring_by p)) refl)
 as_crates {d} {c = c} (refused {h} x (set_up_refused n e ring state ring' state' front numbers p)) =
     subst (λ (k : Held). History d k c) (λ t. held (sym (numbers-read numbers (state_by p)) t) h.cif (left_in (sym (ring_by p) t) h.ring)) (ring_swapped (as_crates x) ring front)
-as_crates {d} {c = c} (refused {h} x (reset-refused n ring state ring' state' front numbers p)) =
+as_crates {d} {c = c} (refused {h} x (reset_refused n ring state ring' state' front numbers p)) =
     subst (λ (k : Held). History d k c) (λ t. held (sym (numbers-read numbers (state_by p)) t) h.cif (left_in (sym (ring_by p) t) h.ring)) (ring_swapped (as_crates x) ring front)
 as_crates {d} {c = c} (refused {h} x (feed_refused n soft b f b' f' front-cif front-ring numbers p)) =
     let u = feed_untouched p in
-    subst (λ (k : Held). History d k c) (λ t. held (sym (numbers-read numbers (ap (λ (q : FedPlaces). q.state) u.places-are)) t) (left_in (sym u.buffers-are t).cif h.cif) (left_in (sym u.buffers-are t).ring h.ring)) (swapped (as_crates x) b.cif b.ring front-cif front-ring)
+    subst (λ (k : Held). History d k c) (λ t. held (sym (numbers-read numbers (ap (λ (q : FedPlaces). q.state) u.places_are)) t) (left_in (sym u.buffers_are t).cif h.cif) (left_in (sym u.buffers_are t).ring h.ring)) (swapped (as_crates x) b.cif b.ring front-cif front-ring)
 as_crates {d} (fed {h} {c} soft b f b' f' x call) =
     subst (λ (s : State). History d (held s b'.cif b'.ring) (after (turn_of (state_in h.state) soft b) soft c)) (sym (read-after call)) (crate-fed soft b (wrote call).fed b' (as_crates x) (in_crate call))
 
 -- ---- and none with its needed lengths is refused
 
 eleven : {d : Description} {h : Kept} {c : Came} → LibraryHistory d h c → 11 ≤ length h.state
-eleven {d} (set-up state cif ring ring' state' p) = put-long (fresh_state d) state (state_by p)
+eleven {d} (set_up state cif ring ring' state' p) = put-long (fresh_state d) state (state_by p)
 eleven (reset state cif ring ring' state' q p) = put-long (fresh_state (state_in state).channel.description) state (state_by p)
 eleven (refused x (set_up_refused n e ring state ring' state' front numbers p)) = numbers-long numbers (eleven x)
-eleven (refused x (reset-refused n ring state ring' state' front numbers p)) = numbers-long numbers (eleven x)
+eleven (refused x (reset_refused n ring state ring' state' front numbers p)) = numbers-long numbers (eleven x)
 eleven (refused x (feed_refused n soft b f b' f' front-cif front-ring numbers p)) = numbers-long numbers (eleven x)
-eleven (fed soft b f b' f' x call) = put-long (wrote call).fed.state f.state (wrote call).state-is
+eleven (fed soft b f b' f' x call) = put-long (wrote call).fed.state f.state (wrote call).state_is
 
 pub library_never_refused : LibraryNeverRefused
 library_never_refused d h c fits x soft b f number b' f' full =
     let call = full.call in
     let same = same_state call in
     let y = as_crates x in
-    let long : 11 ≤ length f.state = omega (arith, eleven x, ap length call.state-kept, length-take 11 f.state, length-take 11 h.state) in
+    let long : 11 ≤ length f.state = omega (arith, eleven x, ap length call.state_kept, length-take 11 f.state, length-take 11 h.state) in
     let option : (state_in f.state).channel.description.eep_option ≤ 255 = subst (λ (e : Description). e.eep_option ≤ 255) (sym (ap (λ (s : State). s.channel.description) same ∙ (holds d (held_of h) c y).channel.description)) fits in
     call.promise.answer
-    ∙ feed_taken soft b f long (in_range f.state (subst Sound (sym same) (state_sound y)) option) full.length-place full.percent-place
+    ∙ feed_taken soft b f long (in_range f.state (subst Sound (sym same) (state_sound y)) option) full.length_place full.percent_place
     (ap (λ (s : State). refusal_in s soft b) same ∙ never_refused d (held_of h) c y soft b full.lengths full.long)

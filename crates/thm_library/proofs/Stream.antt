@@ -24,7 +24,7 @@ use Rattle.thm_msc.proofs.Stream.{stream_after, stream, stream_in_its_words, rec
 use Rattle.thm_msc.specs.Stream.{StreamsOn, Streams, Recovers}
 use Rattle.spec_sender.specs.Msc.{Sender}
 use Rattle.thm_library.specs.Answers.{Seen, seen_of, TakenIn, waits, writes}
-use Rattle.thm_library.specs.Calls.{Kept, kept_after, KeptCall, LibraryHistory, set-up, reset, fed, Fits}
+use Rattle.thm_library.specs.Calls.{Kept, kept_after, KeptCall, LibraryHistory, set_up, reset, fed, Fits}
 use Rattle.thm_library.specs.Stream.{LibraryStart, by_set_up, by_reset, LibraryCall, LibraryFedOn, no_symbol, one_more, not_seen, seen_at, LibraryStreamsOn, LibraryStreams, LibraryRecovers}
 use Rattle.thm_library.specs.Theorems.{LibraryStreamAfter, LibraryStream, LibraryStreamInItsWords, LibraryRecovery, LibraryRecoveryInItsWords}
 use Rattle.thm_library.proofs.Agreement.{Told, told-waits, told-yields, told_of}
@@ -45,7 +45,7 @@ started {d} (by_set_up {number} state cif ring ring' state' ok long needed p) =
     let q : SetUpCall d ring state 0 ring' state' = subst (λ (m : ℕ). SetUpCall d ring state m ring' state') z p in
     record {
       zero = z;
-      since = set-up state cif ring ring' state' q;
+      since = set_up state cif ring ring' state' q;
       start = subst (λ (s : State). Start d (gives tt) (held s cif ring')) (sym (read_back (fresh_state d) state (state_by q))) (crate-set-up cif ring (done d) ring' ok needed (prepared (set_up_none d (length ring) (length state) q.answer) (ring_by q)));
     }
 started {d} (by_reset {number} state cif ring ring' state' e long ranged bad needed p) =
@@ -132,7 +132,7 @@ streams_on v t =
 streams : {d : Description} {s : Sender} {r n number : ℕ} {h h' : Kept} {softs : List (List ℤ)} {seens : List Seen} → number ≡ 0 → (v : AsFed d h softs seens h') → Streams d s r n (gives tt) v.calls → LibraryStreams d s r n number seens
 unfolding call_at seen_at
 streams z v t =
-    record { starts = z; goes_on = streams_on v t.goes_on; waits-first = λ k l g. told-waits (v.told (18 * k + 17) (omega (arith, t.goes_on.as_many))) (t.waits-first k l g) }
+    record { starts = z; goes_on = streams_on v t.goes_on; waits_first = λ k l g. told-waits (v.told (18 * k + 17) (omega (arith, t.goes_on.as_many))) (t.waits_first k l g) }
 
 pub library_stream_after : LibraryStreamAfter
 library_stream_after d h c fits x e s r n frames softs sent seens h' fs =

@@ -50,4 +50,4 @@ pub record SameWritten (d : Description) (c c₂ : Seen) : Type 0 where
   pub size : length bytes ≡ 3 * d.bitrate
   pub first : Written d bytes c
   pub second : Written d bytes c₂
-  pub percent-one : first.percent ≡ second.percent
+  pub percent_one : first.percent ≡ second.percent

@@ -23,9 +23,9 @@ kept_after b' f' = kept f'.state b'.cif b'.ring
 -- a call of feeding: any symbol; the needed part of what was kept, eleven numbers, 55,296 values and 1,024 × size.
 -- What lies behind that part, its lengths and all else that is handed in may be others at each call
 pub record KeptCall (d : Description) (h : Kept) (soft : List ℤ) (b : Buffers) (f : FedPlaces) (number : ℕ) (b' : Buffers) (f' : FedPlaces) : Type 0 where
-  pub state-kept : take 11 f.state ≡ take 11 h.state
-  pub cif-kept : take cif_bits b.cif ≡ take cif_bits h.cif
-  pub ring-kept : take (ring_length d) b.ring ≡ take (ring_length d) h.ring
+  pub state_kept : take 11 f.state ≡ take 11 h.state
+  pub cif_kept : take cif_bits b.cif ≡ take cif_bits h.cif
+  pub ring_kept : take (ring_length d) b.ring ≡ take (ring_length d) h.ring
   pub promise : FeedCall soft b f number b' f'
 
 -- the state's numbers after a refused call: it was handed a front part of those kept, which stand behind it as it left them; or any others, which are none of the caller's state
@@ -37,14 +37,14 @@ pub data Numbers (kept given given' : List ℕ) : List ℕ → Type 0 where
 pub data RefusedCall (d : Description) (h : Kept) : Kept → Type 0 where
   set_up_refused : {numbers : List ℕ} (n : ℕ) (e : Description) (ring : List ℤ) (state : List ℕ) (ring' : List ℤ) (state' : List ℕ) → FrontOf (ring_length d) ring h.ring → Numbers h.state state state' numbers → SetUpCall e ring state (suc n) ring' state'
       → RefusedCall d h (kept numbers h.cif (left_in ring' h.ring))
-  reset-refused : {numbers : List ℕ} (n : ℕ) (ring : List ℤ) (state : List ℕ) (ring' : List ℤ) (state' : List ℕ) → FrontOf (ring_length d) ring h.ring → Numbers h.state state state' numbers → ResetCall state ring (suc n) ring' state'
+  reset_refused : {numbers : List ℕ} (n : ℕ) (ring : List ℤ) (state : List ℕ) (ring' : List ℤ) (state' : List ℕ) → FrontOf (ring_length d) ring h.ring → Numbers h.state state state' numbers → ResetCall state ring (suc n) ring' state'
       → RefusedCall d h (kept numbers h.cif (left_in ring' h.ring))
   feed_refused : {numbers : List ℕ} (n : ℕ) (soft : List ℤ) (b : Buffers) (f : FedPlaces) (b' : Buffers) (f' : FedPlaces) → FrontOf cif_bits b.cif h.cif → FrontOf (ring_length d) b.ring h.ring → Numbers h.state f.state f'.state numbers → FeedCall soft b f (suc n) b' f'
       → RefusedCall d h (kept numbers (left_in b'.cif h.cif) (left_in b'.ring h.ring))
 
 -- the calls since a description was set up, or numbers of a state that has it were reset, each answered with 0 or refused: any number, in any order
 pub data LibraryHistory (d : Description) : Kept → Came → Type 0 where
-  set-up : (state : List ℕ) (cif ring : List ℤ) (ring' : List ℤ) (state' : List ℕ) → SetUpCall d ring state 0 ring' state' → LibraryHistory d (kept state' cif ring') (came [] [])
+  set_up : (state : List ℕ) (cif ring : List ℤ) (ring' : List ℤ) (state' : List ℕ) → SetUpCall d ring state 0 ring' state' → LibraryHistory d (kept state' cif ring') (came [] [])
   reset : (state : List ℕ) (cif ring : List ℤ) (ring' : List ℤ) (state' : List ℕ) → (state_in state).channel.description ≡ d → ResetCall state ring 0 ring' state' → LibraryHistory d (kept state' cif ring') (came [] [])
   refused : {h h' : Kept} {c : Came} → LibraryHistory d h c → RefusedCall d h h' → LibraryHistory d h' c
   fed : {h : Kept} {c : Came} (soft : List ℤ) (b : Buffers) (f : FedPlaces) (b' : Buffers) (f' : FedPlaces) → LibraryHistory d h c → KeptCall d h soft b f 0 b' f' → LibraryHistory d (kept_after b' f') (after (turn_of (state_in h.state) soft b) soft c)

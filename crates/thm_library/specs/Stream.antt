@@ -23,8 +23,8 @@ pub record LibraryCall (d : Description) (h : Kept) (soft : List ℤ) (b : Buffe
   pub call : KeptCall d h soft b f number b' f'
   pub lengths : Enough d b
   pub long : symbol_bits ≤ length soft
-  pub length-place : 1 ≤ length f.lengths
-  pub percent-place : 1 ≤ length f.percents
+  pub length_place : 1 ≤ length f.lengths
+  pub percent_place : 1 ≤ length f.percents
 
 -- these symbols were fed one after another: what was kept before the first, the symbols, the calls, and what is kept after the last
 pub data LibraryFedOn (d : Description) (h : Kept) : List (List ℤ) → List Seen → Kept → Type 0 where
@@ -50,7 +50,7 @@ pub record LibraryStreamsOn (d : Description) (s : Sender) (r n : ℕ) (seens : 
 pub record LibraryStreams (d : Description) (s : Sender) (r n number : ℕ) (seens : List Seen) : Type 0 where
   pub starts : number ≡ 0
   pub goes_on : LibraryStreamsOn d s r n seens
-  pub waits-first : (k : ℕ) → k < n → k < 16 → Waited (seen_at seens k 17)
+  pub waits_first : (k : ℕ) → k < n → k < 16 → Waited (seen_at seens k 17)
 
 -- what recovery comes to: the start answers 0, 305 calls wait, and the last writes frame r
 pub record LibraryRecovers (d : Description) (s : Sender) (r number : ℕ) (seens : List Seen) : Type 0 where

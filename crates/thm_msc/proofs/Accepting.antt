@@ -31,7 +31,7 @@ not_bad s h =
 enough : (d : Description) (l : Lengths) → LongEnough d l → is_too_short d l ≡ false
 unfolding is_too_short
 enough d l h =
-    rw (le-ltb l.cif cif_bits h.cif-long, le-ltb l.ring (ring_length d) h.ring_long, le-ltb l.deinterleaved (values_of d) h.read-long, le-ltb l.depunctured (depunctured_length d) h.soft-long, le-ltb l.words (steps_of d.bitrate) h.words_long, le-ltb l.bits (steps_of d.bitrate) h.bits-long, le-ltb l.frame (frame_length d) h.frame-long)
+    rw (le-ltb l.cif cif_bits h.cif_long, le-ltb l.ring (ring_length d) h.ring_long, le-ltb l.deinterleaved (values_of d) h.read_long, le-ltb l.depunctured (depunctured_length d) h.soft_long, le-ltb l.words (steps_of d.bitrate) h.words_long, le-ltb l.bits (steps_of d.bitrate) h.bits_long, le-ltb l.frame (frame_length d) h.frame_long)
 
 pub never_refused : NeverRefused
 unfolding feed_refusal

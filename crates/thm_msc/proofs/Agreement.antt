@@ -26,14 +26,14 @@ use Rattle.spec_sender.specs.Msc.{Sender, place_of}
 use Rattle.spec_sender.proofs.Msc.{own_bit}
 use Rattle.thm_msc.specs.Theorems.{Agreement, AgreementInItsWords, AgreementComes, SameFrame, EarlierForgotten}
 use Rattle.thm_msc.proofs.Accepting.{then_completes}
-use Rattle.thm_msc.proofs.Histories.{holds, accepted_since, count-is, reads_last}
+use Rattle.thm_msc.proofs.Histories.{holds, accepted_since, count_is, reads_last}
 use Rattle.thm_msc.proofs.Slices.{Reads, GaveFrame, given, yields, slices_to_frame, bytes-long, slices_decide}
 
 -- a history, and a call after it that makes a CIF whole
 module _ {d : Description} {h : Held} {c : Came} (x : History d h c) {soft : List ℤ} {b : Buffers} {fed : Fed} {b' : Buffers} (call : HeldCall d h soft b fed b') where
   -- what is to be read of the ring
   reads : (n : LastSixteen c.cifs) → Reads d h.state.channel b.ring (λ (k i : ℕ). value_at (get_or n.last k []) (place_of d i))
-  reads n = record { description = (holds d h c x).channel.description; count = count-is x call n; read = reads_last x call n }
+  reads n = record { description = (holds d h c x).channel.description; count = count_is x call n; read = reads_last x call n }
 
   module _ (whole : turn_of h.state soft b ≡ gives completes) where
     feeds : Feeds (gives completes) h.state soft b fed.state (said_of fed.answer) b'

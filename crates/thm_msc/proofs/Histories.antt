@@ -33,7 +33,7 @@ use Rattle.msc_handler.proofs.History.{board_fresh, board_elsewhere, board_symbo
 use Rattle.msc_moves.proofs.States.{after_middle, after-whole}
 use Rattle.msc_state.proofs.Refusals.{Sound, sound, set_up_long, reset-long, Accepted as CallAccepted, accepted}
 use Rattle.spec_sender.specs.Msc.{place_of}
-use Rattle.thm_msc.specs.Calls.{Held, held, held_after, Came, came, after, HeldCall, History, RefusedCall, set_up_refused, reset-refused, feed_refused, set-up, reset, refused, fed, Holds}
+use Rattle.thm_msc.specs.Calls.{Held, held, held_after, Came, came, after, HeldCall, History, RefusedCall, set_up_refused, reset_refused, feed_refused, set_up, reset, refused, fed, Holds}
 use Rattle.thm_msc.specs.Heard.{LastSixteen}
 use Rattle.thm_msc.specs.Theorems.{IsHeld}
 use Rattle.thm_msc.proofs.Fronts.{front_at, left_at}
@@ -48,15 +48,15 @@ module _ {n : ℕ} {d : Description} {other : State} {ring : List ℤ} {r : SetU
   not_refused : judged_as r.answer ≡ gives tt → n ≡ 0
   not_refused e = given_number n tt tt (sym e ∙ p.answer)
 
-  ring-kept : (k : ℕ) → judged_as r.answer ≡ refuses k → ring' ≡ ring
-  ring-kept k e = p.ring-is ∙ refused-second n k _ ring (sym p.answer ∙ e)
+  ring_kept : (k : ℕ) → judged_as r.answer ≡ refuses k → ring' ≡ ring
+  ring_kept k e = p.ring_is ∙ refused-second n k _ ring (sym p.answer ∙ e)
 
   -- nothing has come in
   prepared_holds : (cif : List ℤ) → n ≡ 0 → ring_length d ≤ length ring → Holds d (came [] []) (held r.state cif ring')
   unfolding started_at
   prepared_holds cif e needed =
       let s : r.state ≡ fresh_state d = p.state ∙ ap (λ (m : ℕ). unless_refused m (fresh_state d) other) e in
-      let q : ring' ≡ cleared d ring = p.ring-is ∙ ap (λ (m : ℕ). unless_refused m (cleared d ring) ring) e in
+      let q : ring' ≡ cleared d ring = p.ring_is ∙ ap (λ (m : ℕ). unless_refused m (cleared d ring) ring) e in
       let fresh : Holds d (came [] []) (held (fresh_state d) cif (cleared d ring)) = record { eighteen = λ k l. absurd (not-suc-le-zero l); board = board_fresh cif; channel = channel_fresh d ring needed } in
       subst (Holds d (came [] [])) (λ i. held (sym s i) cif (sym q i)) fresh
 
@@ -91,8 +91,8 @@ module _ {d : Description} {c : Came} {h : Held} (v : Holds d c h) where
 
   after-refused : {h' : Held} → RefusedCall d h h' → Holds d c h'
   unfolding turn_of
-  after-refused (set_up_refused n e ring r ring' front p q) = elsewhere (λ p l. refl) (left_at (pos 0) (ring_length d) ring h.ring front ring' (ring-kept p n q))
-  after-refused (reset-refused n s ring r ring' front p q) = elsewhere (λ p l. refl) (left_at (pos 0) (ring_length d) ring h.ring front ring' (ring-kept p n q))
+  after-refused (set_up_refused n e ring r ring' front p q) = elsewhere (λ p l. refl) (left_at (pos 0) (ring_length d) ring h.ring front ring' (ring_kept p n q))
+  after-refused (reset_refused n s ring r ring' front p q) = elsewhere (λ p l. refl) (left_at (pos 0) (ring_length d) ring h.ring front ring' (ring_kept p n q))
   after-refused (feed_refused n s soft b r b' front-cif front-ring p q) =
       let u = (fed-refuses s soft b p (is_refusal (refusal_in s soft b) (step_of (whole s)) n (sym q))).1 in
       elsewhere (left_at (pos 0) cif_bits b.cif h.cif front-cif b'.cif (ap (λ (x : Buffers). x.cif) u)) (left_at (pos 0) (ring_length d) b.ring h.ring front-ring b'.ring (ap (λ (x : Buffers). x.ring) u))
@@ -100,7 +100,7 @@ module _ {d : Description} {c : Came} {h : Held} (v : Holds d c h) where
   module _ {soft : List ℤ} {b : Buffers} {r : Fed} {b' : Buffers} (call : HeldCall d h soft b r b') where
     -- over the buffers of a call
     pub now : Holds d c (held h.state b.cif b.ring)
-    now = elsewhere (front_at (pos 0) cif_bits b.cif h.cif call.cif-kept) (front_at (pos 0) (ring_length d) b.ring h.ring call.ring-kept)
+    now = elsewhere (front_at (pos 0) cif_bits b.cif h.cif call.cif_kept) (front_at (pos 0) (ring_length d) b.ring h.ring call.ring_kept)
 
     abbrev s : State
     s = h.state
@@ -117,7 +117,7 @@ module _ {d : Description} {c : Came} {h : Held} (v : Holds d c h) where
           let g = fed-gathers s soft b call.promise none l in
           let m : r.state ≡ record { symbols = s.symbols + 1; cif_in_frame = s.cif_in_frame; channel = s.channel } = g.moved ∙ after_middle s l in
           subst (Holds d (came c.cifs begun')) (λ i. held (sym m i) (sym g.kept i) (sym g.ring_same i))
-          (record { eighteen = v.eighteen; board = board_middle now.board soft taken.lengths.cif-long taken.symbol l; channel = now.channel })
+          (record { eighteen = v.eighteen; board = board_middle now.board soft taken.lengths.cif_long taken.symbol l; channel = now.channel })
 
       module _ (full : 17 ≤ s.symbols) where
         -- the sub-channel's slice of the CIF that is now whole
@@ -131,26 +131,26 @@ module _ {d : Description} {c : Came} {h : Held} (v : Holds d c h) where
         seventeen = omega (arith, v.board.short, v.board.counted)
 
         filled_long : length filled ≡ length b.cif
-        filled_long = stored-length b.cif soft taken.state.symbols taken.lengths.cif-long taken.symbol
+        filled_long = stored-length b.cif soft taken.state.symbols taken.lengths.cif_long taken.symbol
 
         place : d.start_addr + d.sub_size ≤ 864
         place = subst (λ (e : Description). e.start_addr + e.sub_size ≤ 864) v.channel.description (units-inside s.channel.description taken.state.description)
 
         own-long : length own ≡ values_of d
-        own-long = slice_length d filled place (omega (arith, filled_long, taken.lengths.cif-long))
+        own-long = slice_length d filled place (omega (arith, filled_long, taken.lengths.cif_long))
 
         own_at : (i : ℕ) → i < values_of d → at own i ≡ slice_value d begun' i
         unfolding part slice_value
         own_at i l =
             get_or-take (values_of d) (drop (64 * d.start_addr) filled) i (pos 0) l
             ∙ get_or-drop (64 * d.start_addr) filled i (pos 0)
-            ∙ board_symbol now.board soft taken.lengths.cif-long taken.symbol (64 * d.start_addr + i) (omega (arith, place, seventeen))
+            ∙ board_symbol now.board soft taken.lengths.cif_long taken.symbol (64 * d.start_addr + i) (omega (arith, place, seventeen))
 
         ring_long : ring_length d ≤ length b.ring
         ring_long = subst (λ (e : Description). ring_length e ≤ length b.ring) v.channel.description taken.lengths.ring_long
 
-        ring-is : b'.ring ≡ refilled b.ring (values_of d) s.channel.ring_index own
-        ring-is = (fed-completes s soft b call.promise none full).ring-is ∙ ap (λ (e : Description). refilled b.ring (values_of e) s.channel.ring_index (slice_of e filled)) v.channel.description
+        ring_is : b'.ring ≡ refilled b.ring (values_of d) s.channel.ring_index own
+        ring_is = (fed-completes s soft b call.promise none full).ring_is ∙ ap (λ (e : Description). refilled b.ring (values_of e) s.channel.ring_index (slice_of e filled)) v.channel.description
 
         more : length (c.cifs ++ (begun' ∷ [])) ≡ length c.cifs + 1
         more = length-append c.cifs (begun' ∷ [])
@@ -167,7 +167,7 @@ module _ {d : Description} {c : Came} {h : Held} (v : Holds d c h) where
         next_whole : Holds d (came (c.cifs ++ (begun' ∷ [])) []) (held_after r b')
         next_whole =
             let m : r.state ≡ record { symbols = 0; cif_in_frame = (s.cif_in_frame + 1) % 4; channel = channel_after s.channel } = (fed-completes s soft b call.promise none full).moved ∙ after-whole s full in
-            subst (Holds d (came (c.cifs ++ (begun' ∷ [])) [])) (λ i. held (sym m i) b'.cif (sym ring-is i))
+            subst (Holds d (came (c.cifs ++ (begun' ∷ [])) [])) (λ i. held (sym m i) b'.cif (sym ring_is i))
             (record {
               eighteen = eighteen_more;
               board = subst (λ (w : ℕ). BoardHolds w [] 0 ((s.cif_in_frame + 1) % 4) b'.cif) (sym more) (board-whole now.board b'.cif);
@@ -183,7 +183,7 @@ module _ {d : Description} {c : Came} {h : Held} (v : Holds d c h) where
     next (gives completes) e = let t = turn-completes (refusal_in s soft b) (whole s) e in next_whole t.0 (leb-true 17 s.symbols t.1)
 
 pub holds : IsHeld
-holds d _ _ (set-up cif ring r ring' p e) = prepared_holds p cif (not_refused p e) (set_up_long d (length ring) (not_refused p e))
+holds d _ _ (set_up cif ring r ring' p e) = prepared_holds p cif (not_refused p e) (set_up_long d (length ring) (not_refused p e))
 holds d _ _ (reset s cif ring r ring' q p e) = subst (λ (u : Description). Holds u (came [] []) (held r.state cif ring')) q (prepared_holds p cif (not_refused p e) (reset-long s (length ring) (not_refused p e)))
 holds d _ c (refused {h} x q) = after-refused (holds d h c x) q
 holds d _ _ (fed {h} {c} soft b r b' x call) = next (holds d h c x) call (turn_of h.state soft b) refl
@@ -191,7 +191,7 @@ holds d _ _ (fed {h} {c} soft b r b' x call) = next (holds d h c x) call (turn_o
 -- the description was accepted
 pub accepted_since : {d : Description} {h : Held} {c : Came} → History d h c → Accepted d
 unfolding set_up_refusal reset_refusal
-accepted_since {d} (set-up cif ring r ring' p e) = zeroed (clean (set_up_checks d (length ring)) (not_refused p e))
+accepted_since {d} (set_up cif ring r ring' p e) = zeroed (clean (set_up_checks d (length ring)) (not_refused p e))
 accepted_since (reset s cif ring r ring' q p e) = subst Accepted q (sound s (held_not 9 (bad_state s) (zeroed (clean (reset_checks s (length ring)) (not_refused p e))))).description
 accepted_since (refused x q) = accepted_since x
 accepted_since (fed soft b r b' x call) = accepted_since x
@@ -214,8 +214,8 @@ module _ {d : Description} {h : Held} {c : Came} (x : History d h c) {soft : Lis
   wholes_long : length c.cifs ≡ length n.earlier + 16
   wholes_long = ap length n.split ∙ length-append n.earlier n.last ∙ ap (λ (k : ℕ). length n.earlier + k) n.sixteen
 
-  pub count-is : 16 ≤ h.state.channel.cif_count
-  count-is = omega (arith, (holds d h c x).channel.count, wholes_long)
+  pub count_is : 16 ≤ h.state.channel.cif_count
+  count_is = omega (arith, (holds d h c x).channel.count, wholes_long)
 
   -- value i is of the CIF that came delay i CIFs after the first of the sixteen
   pub reads_last : (i : ℕ) → i < values_of d → at (delayed h.state.channel b.ring) i ≡ value_at (get_or n.last (delay i) []) (place_of d i)

@@ -18,7 +18,7 @@ use Rattle.msc_handler.proofs.Feeding.{fed-gathers, fed-completes}
 use Rattle.msc_state.specs.States.{values_of}
 use Rattle.thm_msc.specs.Answers.{Call, call_of}
 use Rattle.thm_msc.specs.Calls.{Held, held_after, Came, History, fed}
-use Rattle.thm_msc.specs.Receiver.{handed, one-call, StoresLong}
+use Rattle.thm_msc.specs.Receiver.{handed, one_call, StoresLong}
 use Rattle.thm_msc.specs.Stream.{FullCall, FedOn, no_symbol, one_more}
 use Rattle.thm_msc.specs.Theorems.{CanBeFed}
 use Rattle.thm_msc.proofs.Accepting.{never_refused}
@@ -37,10 +37,10 @@ module _ {d : Description} {h : Held} {c : Came} (x : History d h c) {soft : Lis
   own = slice_of d filled
 
   cif_same : length filled ≡ length b.cif
-  cif_same = stored-length b.cif soft (state_sound x).symbols f.lengths.cif-long f.long
+  cif_same = stored-length b.cif soft (state_sound x).symbols f.lengths.cif_long f.long
 
   own-long : length own ≡ values_of d
-  own-long = slice_length d filled (units-inside d (accepted_since x)) (omega (arith, cif_same, f.lengths.cif-long))
+  own-long = slice_length d filled (units-inside d (accepted_since x)) (omega (arith, cif_same, f.lengths.cif_long))
 
   ring_same : (k : ℕ) → k ≤ 15 → length (refilled b.ring (values_of d) k own) ≡ length b.ring
   unfolding refilled
@@ -54,19 +54,19 @@ module _ {d : Description} {h : Held} {c : Came} (x : History d h c) {soft : Lis
       go : Dec (h.state.symbols < 17) → StoresLong d (held_after r b')
       go (yes l) =
           let g = fed-gathers h.state soft b f.call.promise none l in
-          record { cif-long = omega (arith, ap length g.kept, cif_same, f.lengths.cif-long); ring_long = omega (arith, ap length g.ring_same, f.lengths.ring_long) }
+          record { cif_long = omega (arith, ap length g.kept, cif_same, f.lengths.cif_long); ring_long = omega (arith, ap length g.ring_same, f.lengths.ring_long) }
       go (no l) =
           let g = fed-completes h.state soft b f.call.promise none (omega arith) in
-          let ring-is : b'.ring ≡ refilled b.ring (values_of d) h.state.channel.ring_index own =
-          g.ring-is ∙ ap (λ (u : Description). refilled b.ring (values_of u) h.state.channel.ring_index (slice_of u filled)) (holds d h c x).channel.description in
+          let ring_is : b'.ring ≡ refilled b.ring (values_of d) h.state.channel.ring_index own =
+          g.ring_is ∙ ap (λ (u : Description). refilled b.ring (values_of u) h.state.channel.ring_index (slice_of u filled)) (holds d h c x).channel.description in
           record {
-            cif-long = omega (arith, ap length g.kept, cif_same, f.lengths.cif-long);
-            ring_long = omega (arith, ap length ring-is, ring_same h.state.channel.ring_index (state_sound x).index, f.lengths.ring_long);
+            cif_long = omega (arith, ap length g.kept, cif_same, f.lengths.cif_long);
+            ring_long = omega (arith, ap length ring_is, ring_same h.state.channel.ring_index (state_sound x).index, f.lengths.ring_long);
           }
 
 -- ---- one call before others
 
-fed-before : {d : Description} {h h' : Held} {softs : List (List ℤ)} {calls : List Call} (soft : List ℤ) (b : Buffers) (r : Fed) (b' : Buffers) → FullCall d h soft b r b' → FedOn d (held_after r b') softs calls h' → FedOn d h (soft ∷ softs) (call_of h.state b r b' ∷ calls) h'
+fed-before : {d : Description} {h : Held} (soft : List ℤ) (b : Buffers) (r : Fed) (b' : Buffers) → FullCall d h soft b r b' → {softs : List (List ℤ)} {calls : List Call} {h' : Held} → FedOn d (held_after r b') softs calls h' → FedOn d h (soft ∷ softs) (call_of h.state b r b' ∷ calls) h'
 fed-before soft b r b' f no_symbol = one_more soft b r b' no_symbol f
 fed-before soft b r b' f (one_more soft₂ b₂ r₂ b₂' fs f₂) = one_more soft₂ b₂ r₂ b₂' (fed-before soft b r b' f fs) f₂
 
@@ -74,14 +74,14 @@ fed-before soft b r b' f (one_more soft₂ b₂ r₂ b₂' fs f₂) = one_more s
 
 pub can_be_fed : CanBeFed
 can_be_fed f d h c x o stores [] es = record { calls = []; last = h; fed_on = no_symbol }
-can_be_fed f d h c x o stores (w ∷ ws) (one-call t e es) =
+can_be_fed f d h c x o stores (w ∷ ws) (one_call t e es) =
     let b : Buffers = handed h w in
     let r : Fed = f.answers h.state w.soft b in
     let b' : Buffers = f.leaves h.state w.soft b in
     let full : FullCall d h w.soft b r b' =
     record {
-      call = record { cif-kept = refl; ring-kept = refl; promise = f.keeps h w o t };
-      lengths = record { cif-long = stores.cif-long; ring_long = stores.ring_long; read-long = e.read-long; soft-long = e.soft-long; words_long = e.words_long; bits-long = e.bits-long; frame-long = e.frame-long };
+      call = record { cif_kept = refl; ring_kept = refl; promise = f.keeps h w o t };
+      lengths = record { cif_long = stores.cif_long; ring_long = stores.ring_long; read_long = e.read_long; soft_long = e.soft_long; words_long = e.words_long; bits_long = e.bits_long; frame_long = e.frame_long };
       long = e.symbol_long;
     } in
     let rest = can_be_fed f d (held_after r b') _ (fed w.soft b r b' x full.call) (f.stays h w o t) (stores_kept x full) ws es in

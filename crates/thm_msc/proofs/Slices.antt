@@ -66,7 +66,7 @@ given {d} {c} b {own} {said} b' h p =
       bits = b.bits;
       words' = f.words';
       bits' = f.bits';
-      framing = subst (Framed (ends_of c.description.is_eep) c.description.bitrate (depuncture (mask (profile_of c.description)) (delayed c b.ring)) b.words b.bits b.frame f.percent f.words' f.bits') (sym (ap (λ (q : Buffers). q.frame) f.buffers-are)) f.framing;
+      framing = subst (Framed (ends_of c.description.is_eep) c.description.bitrate (depuncture (mask (profile_of c.description)) (delayed c b.ring)) b.words b.bits b.frame f.percent f.words' f.bits') (sym (ap (λ (q : Buffers). q.frame) f.buffers_are)) f.framing;
       answer = f.answer;
     } in
     subst (λ (e : Description). GaveFrame e (delayed c b.ring) said b.frame b'.frame) h.description g
@@ -112,7 +112,7 @@ slices_decide {d} {c} {c₂} {ring} {ring₂} {old₂ = old₂} {new₂ = new₂
       size = bytes-long e;
       first = e.frame_is;
       second = f.frame_is ∙ ap (λ (bits : List ℕ). bytes_of_bits (frame_bits d.bitrate bits) ++ drop (3 * d.bitrate) old₂) (sym (bits-one e.decodes f.decodes));
-      said_one = g.answer ∙ ap (λ (p : Float). gives (framed (3 * d.bitrate) p)) (e.percent-is ∙ ap (λ (m : ℤ). percent_of m (sum_abs (soft (delayed c ring)))) (metric-one e.decodes f.decodes) ∙ sym f.percent-is) ∙ sym k.answer;
+      said_one = g.answer ∙ ap (λ (p : Float). gives (framed (3 * d.bitrate) p)) (e.percent_is ∙ ap (λ (m : ℤ). percent_of m (sum_abs (soft (delayed c ring)))) (metric-one e.decodes f.decodes) ∙ sym f.percent_is) ∙ sym k.answer;
     }
   where
     long : (c : Channel) (ring : List ℤ) → c.description ≡ d → length (delayed c ring) ≡ values_of d

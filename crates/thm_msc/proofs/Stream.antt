@@ -28,7 +28,7 @@ use Rattle.msc_handler.specs.Promises.{said_of, Buffers, Turn, gathers, complete
 use Rattle.msc_set_up.specs.Promises.{Prepared}
 use Rattle.msc_state.specs.States.{ring_length, set_up_refusal, reset_refusal}
 use Rattle.thm_msc.specs.Answers.{Call, call_of, Waits, Yields, Taken, waits}
-use Rattle.thm_msc.specs.Calls.{Held, held_after, Came, came, after, History, set-up, reset, fed}
+use Rattle.thm_msc.specs.Calls.{Held, held_after, Came, came, after, History, set_up, reset, fed}
 use Rattle.thm_msc.specs.Heard.{kept_of, Sixteen}
 use Rattle.spec_sender.specs.Msc.{Sender, IsFrame, place_of, cif_bit}
 use Rattle.spec_sender.proofs.Msc.{place_inside}
@@ -51,7 +51,7 @@ started : {d : Description} {first : Outcome (Unit {0})} {h : Held} → Start d 
 unfolding set_up_refusal reset_refusal
 started {d} (by_set_up cif ring r ring' ok m p) =
     let none : set_up_refusal d (length ring) ≡ 0 = rw (ok, le-ltb (length ring) (ring_length d) m) in
-    record { starts = prepared_gives p none; since = set-up cif ring r ring' p (prepared_gives p none) }
+    record { starts = prepared_gives p none; since = set_up cif ring r ring' p (prepared_gives p none) }
 started {d} (by_reset s cif ring r ring' e bad m p) =
     let here : ring_length s.channel.description ≤ length ring = subst (λ (u : Description). ring_length u ≤ length ring) (sym e) m in
     let none : reset_refusal s (length ring) ≡ 0 = rw (bad, le-ltb (length ring) (ring_length s.channel.description) here) in
@@ -318,7 +318,7 @@ stream d first h start s r n frames softs sent calls h' fs =
     record {
       starts = begin.starts;
       goes_on = stream_after d h (came [] []) begin.since refl s r n frames softs sent calls h' fs;
-      waits-first = λ k l g. here_early (here (at-start begin.since refl) fs (18 * k + 17) (omega (arith, sent.long))) k refl (omega arith);
+      waits_first = λ k l g. here_early (here (at-start begin.since refl) fs (18 * k + 17) (omega (arith, sent.long))) k refl (omega arith);
     }
 
 pub stream_in_its_words : StreamInItsWords
@@ -359,7 +359,7 @@ recovery d first h start s r frame sixteen next a long calls h' fs =
         go (yes y) = subst (λ (m : ℕ). Waits (get_or calls m no_call)) is (all.goes_on.waits (j / 18) (j % 18) (omega arith) y)
         go (no n) =
             let e : 18 * (j / 18) + 17 ≡ j = omega arith in
-            subst (λ (m : ℕ). Waits (get_or calls m no_call)) e (all.waits-first (j / 18) (omega arith) (omega arith))
+            subst (λ (m : ℕ). Waits (get_or calls m no_call)) e (all.waits_first (j / 18) (omega arith) (omega arith))
 
 pub recovery_in_its_words : RecoveryInItsWords
 recovery_in_its_words d first h start s r frame sixteen next a = recovery d first h start s r frame sixteen next (record { long = a.long; agree = λ i l. a.agree (delay i) i (delay-lt i) l })

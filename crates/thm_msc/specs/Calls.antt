@@ -41,8 +41,8 @@ after (gives completes) soft c = came (c.cifs ++ ((c.begun ++ (symbol_of soft �
 -- a feed call: any symbol; the state as it was held, and the needed part of the two stores, 55,296 values and 1,024 × size.
 -- What lies behind that part, the stores' lengths and the five work buffers may be others at each call
 pub record HeldCall (d : Description) (h : Held) (soft : List ℤ) (b : Buffers) (r : Fed) (b' : Buffers) : Type 0 where
-  pub cif-kept : take cif_bits b.cif ≡ take cif_bits h.cif
-  pub ring-kept : take (ring_length d) b.ring ≡ take (ring_length d) h.ring
+  pub cif_kept : take cif_bits b.cif ≡ take cif_bits h.cif
+  pub ring_kept : take (ring_length d) b.ring ≡ take (ring_length d) h.ring
   pub promise : FeedPromise h.state soft b r b'
 
 -- a refused call may be handed less: a buffer whose needed part is what was held as far as it goes
@@ -56,13 +56,13 @@ left_in given' held = given' ++ drop (length given') held
 -- a refused call of one of the three: of any state or description; the caller goes on with the state that it held and the stores as the call left them
 pub data RefusedCall (d : Description) (h : Held) : Held → Type 0 where
   set_up_refused : (n : ℕ) (e : Description) (ring : List ℤ) (r : SetUp) (ring' : List ℤ) → FrontOf (ring_length d) ring h.ring → SetUpPromise e ring r ring' → judged_as r.answer ≡ refuses n → RefusedCall d h (held h.state h.cif (left_in ring' h.ring))
-  reset-refused : (n : ℕ) (s : State) (ring : List ℤ) (r : SetUp) (ring' : List ℤ) → FrontOf (ring_length d) ring h.ring → ResetPromise s ring r ring' → judged_as r.answer ≡ refuses n → RefusedCall d h (held h.state h.cif (left_in ring' h.ring))
+  reset_refused : (n : ℕ) (s : State) (ring : List ℤ) (r : SetUp) (ring' : List ℤ) → FrontOf (ring_length d) ring h.ring → ResetPromise s ring r ring' → judged_as r.answer ≡ refuses n → RefusedCall d h (held h.state h.cif (left_in ring' h.ring))
   feed_refused : (n : ℕ) (s : State) (soft : List ℤ) (b : Buffers) (r : Fed) (b' : Buffers) → FrontOf cif_bits b.cif h.cif → FrontOf (ring_length d) b.ring h.ring → FeedPromise s soft b r b' → turn_of s soft b ≡ refuses n
       → RefusedCall d h (held h.state (left_in b'.cif h.cif) (left_in b'.ring h.ring))
 
 -- the calls since a description was set up, or any state that has it was reset: any number, in any order
 pub data History (d : Description) : Held → Came → Type 0 where
-  set-up : (cif ring : List ℤ) (r : SetUp) (ring' : List ℤ) → SetUpPromise d ring r ring' → judged_as r.answer ≡ gives tt → History d (held r.state cif ring') (came [] [])
+  set_up : (cif ring : List ℤ) (r : SetUp) (ring' : List ℤ) → SetUpPromise d ring r ring' → judged_as r.answer ≡ gives tt → History d (held r.state cif ring') (came [] [])
   reset : (s : State) (cif ring : List ℤ) (r : SetUp) (ring' : List ℤ) → s.channel.description ≡ d → ResetPromise s ring r ring' → judged_as r.answer ≡ gives tt → History d (held r.state cif ring') (came [] [])
   refused : {h h' : Held} {c : Came} → History d h c → RefusedCall d h h' → History d h' c
   fed : {h : Held} {c : Came} (soft : List ℤ) (b : Buffers) (r : Fed) (b' : Buffers) → History d h c → HeldCall d h soft b r b' → History d (held_after r b') (after (turn_of h.state soft b) soft c)

@@ -36,20 +36,20 @@ pub record Feeder : Type 1 where
 -- a call brings 3,072 values, and work buffers of their needed lengths
 pub record BringsEnough (d : Description) (w : Brought) : Type 0 where
   pub symbol_long : symbol_bits ≤ length w.soft
-  pub read-long : values_of d ≤ length w.deinterleaved
-  pub soft-long : depunctured_length d ≤ length w.depunctured
+  pub read_long : values_of d ≤ length w.deinterleaved
+  pub soft_long : depunctured_length d ≤ length w.depunctured
   pub words_long : steps_of d.bitrate ≤ length w.words
-  pub bits-long : steps_of d.bitrate ≤ length w.bits
-  pub frame-long : frame_length d ≤ length w.frame
+  pub bits_long : steps_of d.bitrate ≤ length w.bits
+  pub frame_long : frame_length d ≤ length w.frame
 
 -- so does each of these calls, and the function takes it
 pub data AllEnough (f : Feeder) (d : Description) : List Brought → Type 0 where
   no_call : AllEnough f d []
-  one-call : {w : Brought} {ws : List Brought} → f.takes w → BringsEnough d w → AllEnough f d ws → AllEnough f d (w ∷ ws)
+  one_call : {w : Brought} {ws : List Brought} → f.takes w → BringsEnough d w → AllEnough f d ws → AllEnough f d (w ∷ ws)
 
 -- the two stores have their needed lengths
 pub record StoresLong (d : Description) (h : Held) : Type 0 where
-  pub cif-long : cif_bits ≤ length h.cif
+  pub cif_long : cif_bits ≤ length h.cif
   pub ring_long : ring_length d ≤ length h.ring
 
 abbrev pub softs_of : List Brought → List (List ℤ)

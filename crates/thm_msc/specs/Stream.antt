@@ -72,7 +72,7 @@ pub record StreamsOn (d : Description) (s : Sender) (r n : ℕ) (calls : List Ca
 pub record Streams (d : Description) (s : Sender) (r n : ℕ) (first : Outcome (Unit {0})) (calls : List Call) : Type 0 where
   pub starts : first ≡ gives tt
   pub goes_on : StreamsOn d s r n calls
-  pub waits-first : (k : ℕ) → k < n → k < 16 → Waits (call_at calls k 17)
+  pub waits_first : (k : ℕ) → k < n → k < 16 → Waits (call_at calls k 17)
 
 -- sixteen CIFs are the sender's CIFs r to r + 15, as far as frame r goes
 pub record SentSixteen (d : Description) (s : Sender) (r : ℕ) (softs : List (List ℤ)) : Type 0 where
