@@ -1,8 +1,8 @@
 -- What `process_fic` gives of three full symbols that are parts of one slice.
 -- Assumes nothing.
-use mathlib.Core.Path.{◌≡◌, refl, sym, ap, ◌∙◌, subst}
+use mathlib.Core.Path.{◌≡◌, sym, ap, ◌∙◌, subst}
 use mathlib.Core.List.{List, ◌++◌}
-use Prim.Native.Nat.{ℕ, zero, suc, ◌+◌, ◌*◌, ◌≤◌}
+use Prim.Native.Nat.{ℕ, zero, suc, ◌*◌, ◌≤◌}
 use native.Mathlib.Omega.{arith}
 use lib.IntN.{ℤ}
 use lib.ListN.{length, take, drop, take-append-drop, length-drop}
@@ -11,7 +11,7 @@ use Rattle.refusal.specs.Outcome.{gives}
 use Rattle.fic_handler.specs.declared.Fic.{Fic}
 use Rattle.fic_handler.specs.declared.FicAnswer.{FicAnswer}
 use Rattle.fic_handler.specs.declared.FicAnswer.TheVariants.{Fibs, Refused}
-use Rattle.fic_handler.specs.Blocks.{joined, blocks_in, count_of, data_bits, Block, Buffers, written, total}
+use Rattle.fic_handler.specs.Blocks.{joined, blocks_in, data_bits, Block, Buffers, written, total}
 use Rattle.fic_handler.specs.Promise.{answer_of, Processed, process_refusal, Outcomes, FicPromise}
 use Rattle.fic_handler.proofs.Fibs.{count-le}
 use Rattle.fic_handler.proofs.Refusals.{no_refusal}

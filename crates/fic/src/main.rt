@@ -1,10 +1,12 @@
 // The program `fic`: soft values from standard input, as two's-complement bytes, 9,216 at a time as three symbols; the FIBs that pass to
 // standard output, 32 bytes each. An incomplete end is not decoded; a failed write ends it.
+#![tactic(auto)]
+
 ghost use Rattle.std.specs.Prelude.{◌≡◌, ◌*◌, ◌≤◌, length};
 ghost use Rattle.fic.specs.Decoded.{fibs_in, FibsOf};
 
 use fic_handler::FicAnswer;
-use libc::{STDIN_FILENO, STDOUT_FILENO};
+use std::io::{Read, Write};
 
 // Buffers of one turn. Each promise gives only the length.
 fn some_bytes() -> [u8; 9216]
@@ -76,9 +78,9 @@ fn decode(soft: &[i8], fibs: &mut [u8]) -> usize
 }
 
 // One turn: whether to go on.
-fn turn() -> bool {
+fn turn<R: Read, W: Write>(input: &mut R, output: &mut W) -> bool {
     let mut bytes = some_bytes();
-    let got = io::read_full(STDIN_FILENO, &mut bytes);
+    let (got, _) = byte_streams::read_full(input, &mut bytes);
     if got < 9216 {
         return false;
     }
@@ -86,13 +88,15 @@ fn turn() -> bool {
     soft_bytes::convert(&bytes, &mut soft);
     let mut fibs = some_fibs();
     let n = decode(&soft, &mut fibs);
-    io::write_all(STDOUT_FILENO, &fibs[0..n])
+    output.write_all(&fibs[0..n]).is_ok()
 }
 
 // Every turn. Nothing says that an input ends, so the turns are counted down from a number that no run uses up.
-fn main() {
+fn main(rt: HostRuntime) {
+    let mut input = rt.stdin();
+    let mut output = rt.stdout();
     let mut turns = u64::MAX;
-    while turns > 0 && turn() {
+    while turns > 0 && turn(&mut input, &mut output) {
         turns -= 1;
     }
 }

@@ -1,4 +1,6 @@
 // Soft values as two's-complement bytes, as programs read them.
+#![tactic(auto)]
+
 ghost use Rattle.std.specs.Prelude.{◌≡◌, min};
 ghost use Rattle.soft_bytes.specs.Soft.{soft_of, converted};
 

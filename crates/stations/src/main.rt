@@ -1,6 +1,8 @@
 // The program `stations`: soft values from standard input, as two's-complement bytes, transmission frames of 75 symbols of 3,072 values (3 of the FIC,
 // 72 of the MSC, which are passed over), or, with the argument `fic`, the symbols of the FIC alone; the station list to standard output. An
 // incomplete frame at the end is not decoded.
+#![tactic(auto)]
+
 ghost use Rattle.std.specs.Prelude.{◌≡◌, ◌≤◌, length};
 
 use fec_protection::{Description, Judged};
@@ -8,7 +10,8 @@ use fic_directory::{ReadAnswer, Reading};
 use fic_directory_places::{ServiceFound, SubFound};
 use fic_handler::FicAnswer;
 use fic_stations::Component;
-use libc::{STDERR_FILENO, STDIN_FILENO, STDOUT_FILENO};
+use std::env::{Env, FillError};
+use std::io::Read;
 
 // ---- reading
 
@@ -142,16 +145,16 @@ fn decode(soft: &[i8], subs: &mut [u64; 64], services: &mut [u64; 256]) -> Readi
 }
 
 // The MSC's 72 symbols of a transmission frame: whether they were whole.
-fn pass_msc() -> bool {
+fn pass_msc<R: Read>(input: &mut R) -> bool {
     let mut msc = some_msc();
-    let got = io::read_full(STDIN_FILENO, &mut msc);
+    let (got, _) = byte_streams::read_full(input, &mut msc);
     got == 221184
 }
 
 // The next frame's FIC: whether the frame was whole.
-fn next(fic_alone: bool, soft: &mut [i8]) -> bool {
+fn next<R: Read>(input: &mut R, fic_alone: bool, soft: &mut [i8]) -> bool {
     let mut bytes = some_bytes();
-    let got = io::read_full(STDIN_FILENO, &mut bytes);
+    let (got, _) = byte_streams::read_full(input, &mut bytes);
     if got < 9216 {
         return false;
     }
@@ -159,19 +162,25 @@ fn next(fic_alone: bool, soft: &mut [i8]) -> bool {
     if fic_alone {
         return true;
     }
-    pass_msc()
+    pass_msc(input)
 }
 
-#[derive(Drop)]
+#[derive(Clone, Copy)]
 struct Went {
     more: bool,
     reading: Reading,
 }
 
 // One frame.
-fn turn(fic_alone: bool, so_far: Reading, subs: &mut [u64; 64], services: &mut [u64; 256]) -> Went {
+fn turn<R: Read>(
+    input: &mut R,
+    fic_alone: bool,
+    so_far: Reading,
+    subs: &mut [u64; 64],
+    services: &mut [u64; 256],
+) -> Went {
     let mut soft = some_values();
-    if !next(fic_alone, &mut soft) {
+    if !next(input, fic_alone, &mut soft) {
         return Went {
             more: false,
             reading: so_far,
@@ -185,12 +194,17 @@ fn turn(fic_alone: bool, so_far: Reading, subs: &mut [u64; 64], services: &mut [
 }
 
 // Every frame. Nothing says that an input ends, so the turns are counted down from a number that no run uses up.
-fn run(fic_alone: bool, subs: &mut [u64; 64], services: &mut [u64; 256]) -> Reading {
+fn run<R: Read>(
+    input: &mut R,
+    fic_alone: bool,
+    subs: &mut [u64; 64],
+    services: &mut [u64; 256],
+) -> Reading {
     let mut reading = nothing_read();
     let mut more = true;
     let mut turns = u64::MAX;
     while more && turns > 0 {
-        let one = turn(fic_alone, reading, &mut *subs, &mut *services);
+        let one = turn(input, fic_alone, reading, &mut *subs, &mut *services);
         let now_read = one.reading;
         reading = now_read;
         more = one.more;
@@ -201,91 +215,92 @@ fn run(fic_alone: bool, subs: &mut [u64; 64], services: &mut [u64; 256]) -> Read
 
 // ---- telling
 
-fn say(text: &[u8]) {
-    io::write_all(STDOUT_FILENO, text);
+fn say(rt: &impl Print, text: &[u8]) {
+    let _ = rt.write_all(text);
 }
 
-fn tell(text: &[u8], n: u64) {
-    io::write_all(STDOUT_FILENO, text);
-    io::print_decimal(STDOUT_FILENO, n);
+fn tell(rt: &impl Print, text: &[u8], n: u64) {
+    say(rt, text);
+    let _ = print!(rt; "{n}");
 }
 
 // As radio people write it: a description counts the levels of EEP from 0.
-fn say_set(option: u8) {
+fn say_set(rt: &impl Print, option: u8) {
     if option == 0 {
-        say(b"-A");
+        say(rt, b"-A");
     } else if option == 1 {
-        say(b"-B");
+        say(rt, b"-B");
     } else {
-        tell(b" of reserved option ", option as u64);
+        tell(rt, b" of reserved option ", option as u64);
     }
 }
 
-fn say_protection(d: Description) {
+fn say_protection(rt: &impl Print, d: Description) {
     if d.is_eep {
-        tell(b" kbit/s, EEP ", d.protection_level as u64 + 1);
-        say_set(d.eep_option);
+        tell(rt, b" kbit/s, EEP ", d.protection_level as u64 + 1);
+        say_set(rt, d.eep_option);
     } else {
-        tell(b" kbit/s, UEP ", d.protection_level as u64);
+        tell(rt, b" kbit/s, UEP ", d.protection_level as u64);
     }
 }
 
 // What set-up says of it.
-fn say_set_up(d: Description) {
+fn say_set_up(rt: &impl Print, d: Description) {
     let judged = fec_protection::judge(d);
     match judged {
-        Judged::Accepted => say(b", accepted\n"),
+        Judged::Accepted => say(rt, b", accepted\n"),
         Judged::Refused(r) => {
-            tell(b", refused by ", r.number as u64);
-            say(b"\n");
+            tell(rt, b", refused by ", r.number as u64);
+            say(rt, b"\n");
         }
     }
 }
 
-fn say_sub(id: usize, d: Description) {
-    tell(b", sub-channel ", id as u64);
-    tell(b", start ", d.start_addr as u64);
-    tell(b", size ", d.sub_size as u64);
-    tell(b" units, ", d.bitrate as u64);
-    say_protection(d);
-    say_set_up(d);
+fn say_sub(rt: &impl Print, id: usize, d: Description) {
+    tell(rt, b", sub-channel ", id as u64);
+    tell(rt, b", start ", d.start_addr as u64);
+    tell(rt, b", size ", d.sub_size as u64);
+    tell(rt, b" units, ", d.bitrate as u64);
+    say_protection(rt, d);
+    say_set_up(rt, d);
 }
 
-fn say_stream(id: usize, subs: &[u64]) {
+fn say_stream(rt: &impl Print, id: usize, subs: &[u64]) {
     let found = fic_directory_places::sub_channel(subs, id);
     let SubFound::Is(d) = found else {
-        tell(b", sub-channel ", id as u64);
-        say(b", which is not known\n");
+        tell(rt, b", sub-channel ", id as u64);
+        say(rt, b", which is not known\n");
         return;
     };
-    say_sub(id, d);
+    say_sub(rt, id, d);
 }
 
-fn say_audio(kind: u16) {
+fn say_audio(rt: &impl Print, kind: u16) {
     if kind == 63 {
-        say(b": DAB+");
+        say(rt, b": DAB+");
     } else if kind == 0 {
-        say(b": DAB");
+        say(rt, b": DAB");
     } else {
-        tell(b": audio of type ", kind as u64);
+        tell(rt, b": audio of type ", kind as u64);
     }
 }
 
-fn say_component(c: Component, subs: &[u64]) {
+fn say_component(rt: &impl Print, c: Component, subs: &[u64]) {
     match c {
         Component::Audio(kind, id) => {
-            say_audio(kind);
-            say_stream(id, subs);
+            say_audio(rt, kind);
+            say_stream(rt, id, subs);
         }
         Component::Data(id) => {
-            say(b": data");
-            say_stream(id, subs);
+            say(rt, b": data");
+            say_stream(rt, id, subs);
         }
         Component::Reserved => say(
+            rt,
             b": primary component of a reserved kind, sub-channel not known\n",
         ),
-        Component::Packet => say(b": packet, sub-channel not known\n"),
-        Component::Missing => say(b": no primary component, sub-channel not known\n"),
+        Component::Packet => say(rt, b": packet, sub-channel not known\n"),
+        Component::Missing => say(rt, b": no primary component, sub-channel not known\n"),
     }
 }
 
@@ -306,29 +321,29 @@ fn carries(words: [u16; 12], components: usize, id: usize) -> bool {
     fic_stations::carries(&words[0..n], id)
 }
 
-fn say_sid(wide: bool, sid: u32) {
+fn say_sid(rt: &impl Print, wide: bool, sid: u32) {
     if wide {
-        io::print_hex(STDOUT_FILENO, sid as u64, 8);
+        let _ = print!(rt; "{sid:08x}");
     } else {
-        io::print_hex(STDOUT_FILENO, sid as u64, 4);
+        let _ = print!(rt; "{sid:04x}");
     }
 }
 
-fn say_service(subs: &[u64], services: &[u64], place: usize) {
+fn say_service(rt: &impl Print, subs: &[u64], services: &[u64], place: usize) {
     let s = fic_directory_places::service(services, place);
     let found = s.found;
     let ServiceFound::Is(is) = found else {
         return;
     };
     let words = s.words;
-    say_sid(is.wide, is.sid);
-    say_component(primary_of(words, is.components), subs);
+    say_sid(rt, is.wide, is.sid);
+    say_component(rt, primary_of(words, is.components), subs);
 }
 
-fn list_services(subs: &[u64], services: &[u64]) {
+fn list_services(rt: &impl Print, subs: &[u64], services: &[u64]) {
     let mut place: usize = 0;
     while place < 64 {
-        say_service(subs, services, place);
+        say_service(rt, subs, services, place);
         place += 1;
     }
 }
@@ -355,7 +370,7 @@ fn in_use(services: &[u64], id: usize) -> bool {
     false
 }
 
-fn say_without_service(subs: &[u64], services: &[u64], id: usize) {
+fn say_without_service(rt: &impl Print, subs: &[u64], services: &[u64], id: usize) {
     let found = fic_directory_places::sub_channel(subs, id);
     let SubFound::Is(d) = found else {
         return;
@@ -363,46 +378,51 @@ fn say_without_service(subs: &[u64], services: &[u64], id: usize) {
     if in_use(services, id) {
         return;
     }
-    say(b"no service");
-    say_sub(id, d);
+    say(rt, b"no service");
+    say_sub(rt, id, d);
 }
 
-fn list_without_service(subs: &[u64], services: &[u64]) {
+fn list_without_service(rt: &impl Print, subs: &[u64], services: &[u64]) {
     let mut id: usize = 0;
     while id < 64 {
-        say_without_service(subs, services, id);
+        say_without_service(rt, subs, services, id);
         id += 1;
     }
 }
 
-fn say_broken(r: Reading) {
-    tell(b", ended at a FIG that passes the end: ", r.broken as u64);
+fn say_broken(rt: &impl Print, r: Reading) {
+    tell(
+        rt,
+        b", ended at a FIG that passes the end: ",
+        r.broken as u64,
+    );
     if r.broken > 0 {
-        tell(b", the first is FIB ", r.first_fib as u64);
-        tell(b" at offset ", r.first_offset as u64);
+        tell(rt, b", the first is FIB ", r.first_fib as u64);
+        tell(rt, b" at offset ", r.first_offset as u64);
     }
 }
 
 // Services that left the air keep their places, so a long recording may fill them.
-fn say_left_out(left_out: usize) {
-    tell(b", entries of services left out: ", left_out as u64);
-    say(b"\n");
+fn say_left_out(rt: &impl Print, left_out: usize) {
+    tell(rt, b", entries of services left out: ", left_out as u64);
+    say(rt, b"\n");
     if left_out > 0 {
         say(
+            rt,
             b"The list has 64 services and is full, with those that have left the air: give a later part of the recording for a new list.\n",
         );
     }
 }
 
-fn say_reading(r: Reading) {
-    tell(b"FIBs read: ", r.fibs as u64);
-    say_broken(r);
-    say_left_out(r.left_out);
+fn say_reading(rt: &impl Print, r: Reading) {
+    tell(rt, b"FIBs read: ", r.fibs as u64);
+    say_broken(rt, r);
+    say_left_out(rt, r.left_out);
 }
 
 // ---- the argument
 
-#[derive(Drop)]
+#[derive(Clone, Copy)]
 enum Asked {
     Frames,
     FicAlone,
@@ -413,46 +433,48 @@ fn is_fic(text: [u8; 4], n: usize) -> bool {
     n == 3 && text[0] == b'f' && text[1] == b'i' && text[2] == b'c'
 }
 
-fn argument() -> Asked {
-    let count = os::arg_count();
-    if count < 2 {
+fn is_given(rt: &impl Env, i: usize) -> bool {
+    let mut text = [0u8; 4];
+    !matches!(rt.arg(i, &mut text), Err(FillError::NotPresent))
+}
+
+fn argument(rt: &impl Env) -> Asked {
+    if !is_given(rt, 1) {
         return Asked::Frames;
     }
-    if count > 2 {
+    if is_given(rt, 2) {
         return Asked::Wrong;
     }
     let mut text = [0u8; 4];
-    let n = os::arg(1, &mut text);
-    if is_fic(text, n) {
-        Asked::FicAlone
-    } else {
-        Asked::Wrong
+    match rt.arg(1, &mut text) {
+        Ok(n) if is_fic(text, n) => Asked::FicAlone,
+        _ => Asked::Wrong,
     }
 }
 
-fn usage() {
-    io::write_all(STDERR_FILENO, b"usage: stations [fic] < recording\n");
-    io::write_all(
-        STDERR_FILENO,
-        b"The services of an ensemble, from soft values as two's-complement bytes: transmission frames of 75 symbols\nof 3,072 values, or, with `fic`, the first three symbols of each frame alone.\n",
+fn usage(rt: &impl Eprint) {
+    let _ = eprintln!(rt; "usage: stations [fic] < recording");
+    let _ = eprintln!(rt;
+        "The services of an ensemble, from soft values as two's-complement bytes: transmission frames of 75 symbols\nof 3,072 values, or, with `fic`, the first three symbols of each frame alone."
     );
 }
 
-fn stations(fic_alone: bool) {
+fn stations<R: Read>(input: &mut R, rt: &impl Print, fic_alone: bool) {
     let mut subs = some_subs();
     let mut services = some_services();
     fic_directory_places::empty(&mut subs, &mut services);
-    let reading = run(fic_alone, &mut subs, &mut services);
-    list_services(&subs, &services);
-    list_without_service(&subs, &services);
-    say_reading(reading);
+    let reading = run(input, fic_alone, &mut subs, &mut services);
+    list_services(rt, &subs, &services);
+    list_without_service(rt, &subs, &services);
+    say_reading(rt, reading);
 }
 
-fn main() {
-    let what = argument();
+fn main(rt: HostRuntime) {
+    let what = argument(&rt);
+    let mut input = rt.stdin();
     match what {
-        Asked::Frames => stations(false),
-        Asked::FicAlone => stations(true),
-        Asked::Wrong => usage(),
+        Asked::Frames => stations(&mut input, &rt, false),
+        Asked::FicAlone => stations(&mut input, &rt, true),
+        Asked::Wrong => usage(&rt),
     }
 }

@@ -1,16 +1,17 @@
 // Document 01's cases, and those that it says are run and compared: each on the real functions, one line each with what came out.
+#![tactic(auto)]
+
 ghost use Rattle.std.specs.Prelude.{◌≡◌, ◌+◌, ◌≤◌, ◌<◌};
 
 use fec_protection::{Description, Judged, Size};
 use fec_viterbi::Decoding;
-use libc::STDOUT_FILENO;
 
-fn say(text: &[u8]) {
-    io::write_all(STDOUT_FILENO, text);
+fn say(rt: &impl Print, text: &[u8]) {
+    let _ = rt.write_all(text);
 }
 
-fn say_number(n: u64) {
-    io::print_decimal(STDOUT_FILENO, n);
+fn say_number(rt: &impl Print, n: u64) {
+    let _ = print!(rt; "{n}");
 }
 
 fn wide(x: i32) -> i64
@@ -25,55 +26,55 @@ fn size_of(metric: i32) -> u64 {
     if m < 0 { (0 - m) as u64 } else { m as u64 }
 }
 
-fn say_metric(metric: i32) {
+fn say_metric(rt: &impl Print, metric: i32) {
     if metric < 0 {
-        say(b"-");
+        say(rt, b"-");
     }
-    say_number(size_of(metric));
+    say_number(rt, size_of(metric));
 }
 
-fn say_value(value: u8) {
-    say_number(value as u64);
+fn say_value(rt: &impl Print, value: u8) {
+    say_number(rt, value as u64);
 }
 
-fn say_values(values: &[u8]) {
+fn say_values(rt: &impl Print, values: &[u8]) {
     let mut i: usize = 0;
     while i < values.len() {
-        say_value(values[i]);
+        say_value(rt, values[i]);
         i += 1;
     }
 }
 
-fn say_bits(bits: &[u8]) {
+fn say_bits(rt: &impl Print, bits: &[u8]) {
     if bits.len() == 0 {
-        say(b"none");
+        say(rt, b"none");
     }
-    say_values(bits);
+    say_values(rt, bits);
 }
 
-fn say_refusal(number: u8) {
-    say(b"refusal ");
-    say_number(number as u64);
+fn say_refusal(rt: &impl Print, number: u8) {
+    say(rt, b"refusal ");
+    say_number(rt, number as u64);
 }
 
 // What a decoder answered: bits and metric.
-fn say_decoding(answer: Decoding, bits: &[u8]) {
+fn say_decoding(rt: &impl Print, answer: Decoding, bits: &[u8]) {
     match answer {
-        Decoding::Refused(r) => say_refusal(r.number),
+        Decoding::Refused(r) => say_refusal(rt, r.number),
         Decoding::Done(s) => {
-            say(b"bits ");
-            say_bits(bits);
-            say(b", metric ");
-            say_metric(s.metric);
+            say(rt, b"bits ");
+            say_bits(rt, bits);
+            say(rt, b", metric ");
+            say_metric(rt, s.metric);
         }
     }
 }
 
 // The metric alone, of many steps.
-fn say_score(answer: Decoding) {
+fn say_score(rt: &impl Print, answer: Decoding) {
     match answer {
-        Decoding::Refused(r) => say_refusal(r.number),
-        Decoding::Done(s) => say_metric(s.metric),
+        Decoding::Refused(r) => say_refusal(rt, r.number),
+        Decoding::Done(s) => say_metric(rt, s.metric),
     }
 }
 
@@ -85,58 +86,64 @@ fn steps(soft: &[i8]) -> usize
 }
 
 // Up to one step of the state-0 decoder: the path into state 0 starts in state 0 or, where bit 0 of the word is 1, in state 32.
-fn state0(name: &[u8], soft: &[i8]) {
+fn state0(rt: &impl Print, name: &[u8], soft: &[i8]) {
     let mut words = [0u64; 1];
     let mut bits = [0u8; 1];
     let answer = fec_viterbi::viterbi_decode_state0(soft, &mut words, &mut bits);
-    say(name);
+    say(rt, name);
     let n = steps(soft);
-    say_decoding(answer, &bits[..n]);
+    say_decoding(rt, answer, &bits[..n]);
     if n == 1 {
-        say(b", from state ");
-        say_number(words[0] % 2 * 32);
+        say(rt, b", from state ");
+        say_number(rt, words[0] % 2 * 32);
     }
-    say(b"\n");
+    say(rt, b"\n");
 }
 
 // Up to one step of the free-end decoder.
-fn free(name: &[u8], soft: &[i8]) {
+fn free(rt: &impl Print, name: &[u8], soft: &[i8]) {
     let mut words = [0u64; 1];
     let mut bits = [0u8; 1];
     let answer = fec_viterbi::viterbi_decode_with_metric(soft, &mut words, &mut bits);
-    say(name);
+    say(rt, name);
     let n = steps(soft);
-    say_decoding(answer, &bits[..n]);
-    say(b"\n");
+    say_decoding(rt, answer, &bits[..n]);
+    say(rt, b"\n");
 }
 
 // Up to 197 steps by both decoders.
-fn metrics(name: &[u8], soft: &[i8]) {
+fn metrics(rt: &impl Print, name: &[u8], soft: &[i8]) {
     let mut words = [0u64; 197];
     let mut bits = [0u8; 197];
-    say(name);
-    say_score(fec_viterbi::viterbi_decode_state0(soft, &mut words, &mut bits));
-    say(b" and ");
-    say_score(fec_viterbi::viterbi_decode_with_metric(soft, &mut words, &mut bits));
-    say(b"\n");
+    say(rt, name);
+    say_score(
+        rt,
+        fec_viterbi::viterbi_decode_state0(soft, &mut words, &mut bits),
+    );
+    say(rt, b" and ");
+    say_score(
+        rt,
+        fec_viterbi::viterbi_decode_with_metric(soft, &mut words, &mut bits),
+    );
+    say(rt, b"\n");
 }
 
 // 780 values of -128, then four of the last value.
-fn one_hundred_thousand(name: &[u8], last: i8) {
+fn one_hundred_thousand(rt: &impl Print, name: &[u8], last: i8) {
     let mut soft = [-128i8; 784];
     soft[780] = last;
     soft[781] = last;
     soft[782] = last;
     soft[783] = last;
-    metrics(name, &soft);
+    metrics(rt, name, &soft);
 }
 
-fn dispersed(name: &[u8]) {
+fn dispersed(rt: &impl Print, name: &[u8]) {
     let mut bits = [0u8; 16];
     fec_dispersal::energy_dispersal(&mut bits);
-    say(name);
-    say_values(&bits);
-    say(b"\n");
+    say(rt, name);
+    say_values(rt, &bits);
+    say(rt, b"\n");
 }
 
 fn eep(option: u8, level: u8, bitrate: u16, start: u16, size: u16) -> Description {
@@ -161,33 +168,33 @@ fn uep(level: u8, bitrate: u16, start: u16, size: u16) -> Description {
     }
 }
 
-fn say_needed(d: Description) {
+fn say_needed(rt: &impl Print, d: Description) {
     let size = fec_protection::needed_size(d);
     match size {
-        Size::Refused(r) => say(b"no row"),
+        Size::Refused(r) => say(rt, b"no row"),
         Size::Values(n) => {
-            say_number(n as u64);
-            say(b" values");
+            say_number(rt, n as u64);
+            say(rt, b" values");
         }
     }
 }
 
-fn say_judged(d: Description) {
+fn say_judged(rt: &impl Print, d: Description) {
     let answer = fec_protection::judge(d);
     match answer {
-        Judged::Refused(r) => say_refusal(r.number),
-        Judged::Accepted => say(b"accepted"),
+        Judged::Refused(r) => say_refusal(rt, r.number),
+        Judged::Accepted => say(rt, b"accepted"),
     }
 }
 
-fn judged(name: &[u8], d: Description) {
-    say(name);
-    say_number(d.sub_size as u64);
-    say(b" units for ");
-    say_needed(d);
-    say(b": ");
-    say_judged(d);
-    say(b"\n");
+fn judged(rt: &impl Print, name: &[u8], d: Description) {
+    say(rt, name);
+    say_number(rt, d.sub_size as u64);
+    say(rt, b" units for ");
+    say_needed(rt, d);
+    say(rt, b": ");
+    say_judged(rt, d);
+    say(rt, b"\n");
 }
 
 // The register's mask of an output.
@@ -223,63 +230,69 @@ fn held(outputs: &[[[u8; 4]; 2]; 64]) -> u64 {
     n
 }
 
-fn table(name: &[u8]) {
+fn table(rt: &impl Print, name: &[u8]) {
     let outputs = fec_branch_outputs::branch_outputs();
-    say(name);
-    say_number(held(&outputs));
-    say(b" of 512 are the rule's\n");
+    say(rt, name);
+    say_number(rt, held(&outputs));
+    say(rt, b" of 512 are the rule's\n");
 }
 
-fn cases_1_to_4() {
+fn cases_1_to_4(rt: &impl Print) {
     let none = [0i8; 0];
-    state0(b"1, state 0: ", &none);
-    free(b"1, free end: ", &none);
-    state0(b"2, 10,10,10,10, state 0: ", &[10i8, 10, 10, 10]);
-    free(b"3, 10,10,10,10, free end: ", &[10i8, 10, 10, 10]);
-    state0(b"4, 8,8,8,7, state 0: ", &[8i8, 8, 8, 7]);
+    state0(rt, b"1, state 0: ", &none);
+    free(rt, b"1, free end: ", &none);
+    state0(rt, b"2, 10,10,10,10, state 0: ", &[10i8, 10, 10, 10]);
+    free(rt, b"3, 10,10,10,10, free end: ", &[10i8, 10, 10, 10]);
+    state0(rt, b"4, 8,8,8,7, state 0: ", &[8i8, 8, 8, 7]);
 }
 
-fn cases_5_to_8() {
-    state0(b"5, 8,8,8,8, state 0: ", &[8i8; 4]);
-    state0(b"6, four of -128, state 0: ", &[-128i8; 4]);
-    free(b"6, four of -128, free end: ", &[-128i8; 4]);
-    free(b"7, four zeros, free end: ", &[0i8; 4]);
-    dispersed(b"8, 16 zeros dispersed: ");
+fn cases_5_to_8(rt: &impl Print) {
+    state0(rt, b"5, 8,8,8,8, state 0: ", &[8i8; 4]);
+    state0(rt, b"6, four of -128, state 0: ", &[-128i8; 4]);
+    free(rt, b"6, four of -128, free end: ", &[-128i8; 4]);
+    free(rt, b"7, four zeros, free end: ", &[0i8; 4]);
+    dispersed(rt, b"8, 16 zeros dispersed: ");
 }
 
-fn cases_9_to_12() {
+fn cases_9_to_12(rt: &impl Print) {
     judged(
+        rt,
         b"9, EEP option 0 level 3, 8 kbit/s, start 860: ",
         eep(0, 3, 8, 860, 4),
     );
     judged(
+        rt,
         b"10, EEP option 0 level 3, 8 kbit/s, start 861: ",
         eep(0, 3, 8, 861, 4),
     );
-    judged(b"11, UEP 384 level 1: ", uep(1, 384, 0, 416));
-    judged(b"12, UEP 384 level 1: ", uep(1, 384, 0, 417));
+    judged(rt, b"11, UEP 384 level 1: ", uep(1, 384, 0, 416));
+    judged(rt, b"12, UEP 384 level 1: ", uep(1, 384, 0, 417));
 }
 
 // What is subtracted shows from the 196th step on.
-fn many_steps() {
-    metrics(b"780 of -128, metrics: ", &[-128i8; 780]);
-    metrics(b"784 of -128, metrics: ", &[-128i8; 784]);
-    metrics(b"788 of -128, metrics: ", &[-128i8; 788]);
-    one_hundred_thousand(b"780 of -128 and four of -40, metrics: ", -40);
-    one_hundred_thousand(b"780 of -128 and four of -41, metrics: ", -41);
+fn many_steps(rt: &impl Print) {
+    metrics(rt, b"780 of -128, metrics: ", &[-128i8; 780]);
+    metrics(rt, b"784 of -128, metrics: ", &[-128i8; 784]);
+    metrics(rt, b"788 of -128, metrics: ", &[-128i8; 788]);
+    one_hundred_thousand(rt, b"780 of -128 and four of -40, metrics: ", -40);
+    one_hundred_thousand(rt, b"780 of -128 and four of -41, metrics: ", -41);
 }
 
-fn more_descriptions() {
-    judged(b"UEP 32 level 1: ", uep(1, 32, 0, 35));
-    judged(b"EEP option 0 level 1, 8 kbit/s: ", eep(0, 1, 8, 0, 8));
-    judged(b"EEP option 0 level 1, 16 kbit/s: ", eep(0, 1, 16, 0, 16));
+fn more_descriptions(rt: &impl Print) {
+    judged(rt, b"UEP 32 level 1: ", uep(1, 32, 0, 35));
+    judged(rt, b"EEP option 0 level 1, 8 kbit/s: ", eep(0, 1, 8, 0, 8));
+    judged(
+        rt,
+        b"EEP option 0 level 1, 16 kbit/s: ",
+        eep(0, 1, 16, 0, 16),
+    );
 }
 
-fn main() {
-    cases_1_to_4();
-    cases_5_to_8();
-    cases_9_to_12();
-    many_steps();
-    more_descriptions();
-    table(b"branch outputs: ");
+fn main(rt: HostRuntime) {
+    cases_1_to_4(&rt);
+    cases_5_to_8(&rt);
+    cases_9_to_12(&rt);
+    many_steps(&rt);
+    more_descriptions(&rt);
+    table(&rt, b"branch outputs: ");
 }

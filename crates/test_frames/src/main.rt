@@ -1,12 +1,14 @@
 // The program `recorded_frames`: five transmission frames of a recording (recordings/README.md) from standard input, as two's-complement bytes,
 // go to three sub-channels that are set up before the first symbol; each frame goes to standard output as it comes. A short input ends it, and an
 // incomplete symbol is dropped.
+#![tactic(auto)]
+
 ghost use Rattle.std.specs.Prelude.{◌≤◌};
 
 use fec_protection::Description;
-use libc::{STDIN_FILENO, STDOUT_FILENO};
 use msc_handler::Answer;
 use msc_state::State;
+use std::io::{Read, Write};
 
 // EEP 3-A, 96 kbit/s: a description counts EEP levels from 0.
 fn first_description() -> Description {
@@ -101,13 +103,19 @@ fn bytes_in(answer: Answer) -> usize
 }
 
 // Writes the frame that came, if one did.
-fn say(answer: Answer, frame: [u8; 384]) {
+fn say<W: Write>(output: &mut W, answer: Answer, frame: [u8; 384]) {
     let n = bytes_in(answer);
-    io::write_all(STDOUT_FILENO, &frame[0..n]);
+    let _ = output.write_all(&frame[0..n]);
 }
 
 // One symbol to one sub-channel; no work buffer holds anything from symbol to symbol.
-fn listen(state: State, soft: &[i8], cif: &mut [i8], ring: &mut [i8]) -> State {
+fn listen<W: Write>(
+    output: &mut W,
+    state: State,
+    soft: &[i8],
+    cif: &mut [i8],
+    ring: &mut [i8],
+) -> State {
     let mut deinterleaved = some_deinterleaved();
     let mut depunctured = some_depunctured();
     let mut words = some_words();
@@ -125,29 +133,31 @@ fn listen(state: State, soft: &[i8], cif: &mut [i8], ring: &mut [i8]) -> State {
         &mut frame,
     );
     let answer = fed.answer;
-    say(answer, frame);
+    say(output, answer, frame);
     fed.state
 }
 
 // The FIC's three symbols, which stand before a transmission frame's 72 of the MSC.
-fn pass_fic() {
+fn pass_fic<R: Read>(input: &mut R) {
     let mut fic = some_fic();
-    io::read_full(STDIN_FILENO, &mut fic);
+    let _ = byte_streams::read_full(input, &mut fic);
 }
 
 // The next symbol of the MSC: whether there was a whole one.
-fn next(symbol: usize, soft: &mut [i8]) -> bool {
+fn next<R: Read>(input: &mut R, symbol: usize, soft: &mut [i8]) -> bool {
     if symbol % 72 == 0 {
-        pass_fic();
+        pass_fic(input);
     }
     let mut bytes = some_bytes();
-    let got = io::read_full(STDIN_FILENO, &mut bytes);
+    let (got, _) = byte_streams::read_full(input, &mut bytes);
     soft_bytes::convert(&bytes, &mut *soft);
     got == 3072
 }
 
 // Every symbol of the MSC in five transmission frames.
-fn run(
+fn run<R: Read, W: Write>(
+    input: &mut R,
+    output: &mut W,
     soft: &mut [i8],
     cif1: &mut [i8],
     cif2: &mut [i8],
@@ -160,15 +170,17 @@ fn run(
     let mut second = start(second_description(), &mut *ring2);
     let mut third = start(third_description(), &mut *ring3);
     let mut symbol: usize = 0;
-    while symbol < 360 && next(symbol, &mut *soft) {
-        first = listen(first, &*soft, &mut *cif1, &mut *ring1);
-        second = listen(second, &*soft, &mut *cif2, &mut *ring2);
-        third = listen(third, &*soft, &mut *cif3, &mut *ring3);
+    while symbol < 360 && next(input, symbol, &mut *soft) {
+        first = listen(output, first, &*soft, &mut *cif1, &mut *ring1);
+        second = listen(output, second, &*soft, &mut *cif2, &mut *ring2);
+        third = listen(output, third, &*soft, &mut *cif3, &mut *ring3);
         symbol += 1;
     }
 }
 
-fn main() {
+fn main(rt: HostRuntime) {
+    let mut input = rt.stdin();
+    let mut output = rt.stdout();
     let mut soft = some_values();
     let mut cif1 = some_cif();
     let mut cif2 = some_cif();
@@ -177,6 +189,14 @@ fn main() {
     let mut ring2 = some_ring();
     let mut ring3 = some_ring();
     run(
-        &mut soft, &mut cif1, &mut cif2, &mut cif3, &mut ring1, &mut ring2, &mut ring3,
+        &mut input,
+        &mut output,
+        &mut soft,
+        &mut cif1,
+        &mut cif2,
+        &mut cif3,
+        &mut ring1,
+        &mut ring2,
+        &mut ring3,
     );
 }

@@ -1,10 +1,12 @@
-// Recorded answers on standard input. A record: a kind, then the input and the answer, each as a length of two bytes, the low one first,
+// Recorded answers on an input. A record: a kind, then the input and the answer, each as a length of two bytes, the low one first,
 // and its bytes; compare/README.md has the kinds. What is read comes from outside, so a promise on it gives its bounds.
+#![tactic(auto)]
+
 ghost use Rattle.std.specs.Prelude.{◌≡◌, ◌+◌, ◌*◌, ◌≤◌, min, length, get_or};
 ghost use Rattle.test_records.specs.Records.{pair_at, word_of, description_of, counted, Part};
 
 use fec_protection::Description;
-use libc::STDIN_FILENO;
+use std::io::Read;
 
 fn least(a: usize, b: usize) -> usize
     ensures { result ≡ min a b }
@@ -71,11 +73,11 @@ pub fn description(bytes: &[u8]) -> Description
 }
 
 // The kind of the next record; 0 where there is none.
-pub fn read_kind() -> usize
+pub fn read_kind<R: Read>(input: &mut R) -> usize
     ensures { result ≤ 255 }
 {
     let mut one = [0u8; 1];
-    let got = io::read_full(STDIN_FILENO, &mut one);
+    let (got, _) = byte_streams::read_full(input, &mut one);
     if got < 1 {
         return 0;
     }
@@ -83,11 +85,11 @@ pub fn read_kind() -> usize
 }
 
 // A length; 0 where the input has ended.
-fn read_length() -> usize
+fn read_length<R: Read>(input: &mut R) -> usize
     ensures { result ≤ 65535 }
 {
     let mut two = [0u8; 2];
-    let got = io::read_full(STDIN_FILENO, &mut two);
+    let (got, _) = byte_streams::read_full(input, &mut two);
     if got < 2 {
         return 0;
     }
@@ -95,11 +97,12 @@ fn read_length() -> usize
 }
 
 // A length and its bytes, put at the start of the buffer as far as it reaches: how many came.
-pub fn read_part(buf: &mut [u8]) -> usize
+pub fn read_part<R: Read>(input: &mut R, buf: &mut [u8]) -> usize
     ensures { Part buf.old result buf.new }
 {
-    let n = least(read_length(), buf.len());
-    io::read_full(STDIN_FILENO, &mut buf[..n])
+    let n = least(read_length(input), buf.len());
+    let (got, _) = byte_streams::read_full(input, &mut buf[..n]);
+    got
 }
 
 fn one_more(n: u64) -> u64

@@ -1,11 +1,13 @@
 // Replays recorded answers of the Rust on bits, bytes and descriptions, kinds 1 to 5, from standard input, and counts, function by
 // function, which answers are the same.
+#![tactic(auto)]
+
 use fec_protection::{Judged, Size};
-use libc::STDOUT_FILENO;
+use std::io::Read;
 
 fn disperses(input: &mut [u8], answer: &[u8]) -> bool {
     fec_dispersal::energy_dispersal(&mut *input);
-    check::same(&*input, answer)
+    &*input == answer
 }
 
 // A yes or no as recorded: one byte, 1 or 0.
@@ -60,15 +62,15 @@ fn is_same(kind: usize, input: &mut [u8], answer: &[u8]) -> bool {
 }
 
 // One record: whether there was one.
-fn replay(same: &mut [u64; 16], other: &mut [u64; 16]) -> bool {
-    let kind = test_records::read_kind();
+fn replay<R: Read>(records: &mut R, same: &mut [u64; 16], other: &mut [u64; 16]) -> bool {
+    let kind = test_records::read_kind(records);
     if kind == 0 {
         return false;
     }
-    let mut input = io::large_buffer();
-    let mut answer = io::large_buffer();
-    let n = test_records::read_part(&mut input);
-    let m = test_records::read_part(&mut answer);
+    let mut input = byte_streams::large_buffer();
+    let mut answer = byte_streams::large_buffer();
+    let n = test_records::read_part(records, &mut input);
+    let m = test_records::read_part(records, &mut answer);
     if is_same(kind, &mut input[..n], &answer[..m]) {
         test_records::count(&mut *same, kind);
     } else {
@@ -78,29 +80,25 @@ fn replay(same: &mut [u64; 16], other: &mut [u64; 16]) -> bool {
 }
 
 // Every record. Nothing says that an input ends, so the turns are counted down from a number that no run uses up.
-fn replay_all(same: &mut [u64; 16], other: &mut [u64; 16]) {
+fn replay_all<R: Read>(records: &mut R, same: &mut [u64; 16], other: &mut [u64; 16]) {
     let mut turns = u64::MAX;
-    while turns > 0 && replay(&mut *same, &mut *other) {
+    while turns > 0 && replay(records, &mut *same, &mut *other) {
         turns -= 1;
     }
 }
 
-fn tell(name: &[u8], same: u64, other: u64) {
-    io::write_all(STDOUT_FILENO, name);
-    io::write_all(STDOUT_FILENO, b": ");
-    io::print_decimal(STDOUT_FILENO, same);
-    io::write_all(STDOUT_FILENO, b" same, ");
-    io::print_decimal(STDOUT_FILENO, other);
-    io::write_all(STDOUT_FILENO, b" other\n");
+fn tell(rt: &impl Print, name: &str, same: u64, other: u64) {
+    let _ = println!(rt; "{name}: {same} same, {other} other");
 }
 
-fn main() {
+fn main(rt: HostRuntime) {
+    let mut records = rt.stdin();
     let mut same = [0u64; 16];
     let mut other = [0u64; 16];
-    replay_all(&mut same, &mut other);
-    tell(b"energy_dispersal", same[1], other[1]);
-    tell(b"fib_crc_valid", same[2], other[2]);
-    tell(b"check_crc_bits", same[3], other[3]);
-    tell(b"judge", same[4], other[4]);
-    tell(b"needed_size and depunctured_size", same[5], other[5]);
+    replay_all(&mut records, &mut same, &mut other);
+    tell(&rt, "energy_dispersal", same[1], other[1]);
+    tell(&rt, "fib_crc_valid", same[2], other[2]);
+    tell(&rt, "check_crc_bits", same[3], other[3]);
+    tell(&rt, "judge", same[4], other[4]);
+    tell(&rt, "needed_size and depunctured_size", same[5], other[5]);
 }

@@ -1,9 +1,11 @@
 // Replays recorded answers of the Rust on whole FICs, kind 10, from standard input, and counts which answers are the same. The
 // buffers of a call have the lengths that four blocks need, with a value in each place that the call does not leave there.
+#![tactic(auto)]
+
 ghost use Rattle.std.specs.Prelude.{◌≡◌, ◌≤◌, length};
 
 use fic_handler::FicAnswer;
-use libc::STDOUT_FILENO;
+use std::io::Read;
 
 // Buffers of one call. Each promise gives only the length.
 fn some_values() -> [i8; 9216]
@@ -48,7 +50,7 @@ fn are_fibs(answer: FicAnswer, fibs: &[u8], recorded: &[u8]) -> bool
     }
     let m = 32 * n;
     let untouched = some_fibs();
-    check::same(&fibs[0..m], recorded) && check::same(&fibs[m..], &untouched[m..])
+    &fibs[0..m] == recorded && &fibs[m..] == &untouched[m..]
 }
 
 // Three symbols: the first ends before value `a`, the second before `b`.
@@ -123,15 +125,15 @@ fn is_same(kind: usize, input: &[u8], answer: &[u8]) -> bool {
 }
 
 // One record: whether there was one.
-fn replay(same: &mut [u64; 16], other: &mut [u64; 16]) -> bool {
-    let kind = test_records::read_kind();
+fn replay<R: Read>(records: &mut R, same: &mut [u64; 16], other: &mut [u64; 16]) -> bool {
+    let kind = test_records::read_kind(records);
     if kind == 0 {
         return false;
     }
-    let mut input = io::large_buffer();
-    let mut answer = io::large_buffer();
-    let n = test_records::read_part(&mut input);
-    let m = test_records::read_part(&mut answer);
+    let mut input = byte_streams::large_buffer();
+    let mut answer = byte_streams::large_buffer();
+    let n = test_records::read_part(records, &mut input);
+    let m = test_records::read_part(records, &mut answer);
     if is_same(kind, &input[..n], &answer[..m]) {
         test_records::count(&mut *same, kind);
     } else {
@@ -141,25 +143,21 @@ fn replay(same: &mut [u64; 16], other: &mut [u64; 16]) -> bool {
 }
 
 // Every record. Nothing says that an input ends, so the turns are counted down from a number that no run uses up.
-fn replay_all(same: &mut [u64; 16], other: &mut [u64; 16]) {
+fn replay_all<R: Read>(records: &mut R, same: &mut [u64; 16], other: &mut [u64; 16]) {
     let mut turns = u64::MAX;
-    while turns > 0 && replay(&mut *same, &mut *other) {
+    while turns > 0 && replay(records, &mut *same, &mut *other) {
         turns -= 1;
     }
 }
 
-fn tell(name: &[u8], same: u64, other: u64) {
-    io::write_all(STDOUT_FILENO, name);
-    io::write_all(STDOUT_FILENO, b": ");
-    io::print_decimal(STDOUT_FILENO, same);
-    io::write_all(STDOUT_FILENO, b" same, ");
-    io::print_decimal(STDOUT_FILENO, other);
-    io::write_all(STDOUT_FILENO, b" other\n");
+fn tell(rt: &impl Print, name: &str, same: u64, other: u64) {
+    let _ = println!(rt; "{name}: {same} same, {other} other");
 }
 
-fn main() {
+fn main(rt: HostRuntime) {
+    let mut records = rt.stdin();
     let mut same = [0u64; 16];
     let mut other = [0u64; 16];
-    replay_all(&mut same, &mut other);
-    tell(b"process_fic", same[10], other[10]);
+    replay_all(&mut records, &mut same, &mut other);
+    tell(&rt, "process_fic", same[10], other[10]);
 }

@@ -1,12 +1,14 @@
 // Replays recorded answers of the Rust on the smallest sub-channel, kind 11, from standard input, and counts which answers are the same:
 // set up, then symbol by symbol, 256 values at the start of each CIF and zeros behind them. The buffers handed to the calls have just the needed
 // lengths, with another value in each place.
+#![tactic(auto)]
+
 ghost use Rattle.std.specs.Prelude.{◌≡◌, ◌≤◌, length};
 
 use fec_protection::{Description, Judged};
-use libc::STDOUT_FILENO;
 use msc_handler::{Answer, Fed};
 use msc_state::State;
+use std::io::Read;
 
 // Buffers of one record or one symbol. Each promise gives only the length.
 fn some_symbol() -> [i8; 3072]
@@ -69,7 +71,7 @@ fn smallest() -> Description {
 }
 
 // How far a record is replayed: the receiver's state, how many bytes of frames came, and whether all was as recorded.
-#[derive(Drop)]
+#[derive(Clone, Copy)]
 struct Walk {
     state: State,
     at: usize,
@@ -98,7 +100,7 @@ fn is_frame(frame: &[u8], recorded: &[u8], at: usize) -> bool
     if recorded.len() < to {
         return false;
     }
-    check::same(frame, &recorded[at..to])
+    frame == &recorded[at..to]
 }
 
 // What a symbol's answer makes of a walk.
@@ -213,15 +215,15 @@ fn is_same(kind: usize, input: &[u8], answer: &[u8]) -> bool {
 }
 
 // One record: whether there was one.
-fn replay(same: &mut [u64; 16], other: &mut [u64; 16]) -> bool {
-    let kind = test_records::read_kind();
+fn replay<R: Read>(records: &mut R, same: &mut [u64; 16], other: &mut [u64; 16]) -> bool {
+    let kind = test_records::read_kind(records);
     if kind == 0 {
         return false;
     }
-    let mut input = io::large_buffer();
-    let mut answer = io::large_buffer();
-    let n = test_records::read_part(&mut input);
-    let m = test_records::read_part(&mut answer);
+    let mut input = byte_streams::large_buffer();
+    let mut answer = byte_streams::large_buffer();
+    let n = test_records::read_part(records, &mut input);
+    let m = test_records::read_part(records, &mut answer);
     if is_same(kind, &input[..n], &answer[..m]) {
         test_records::count(&mut *same, kind);
     } else {
@@ -231,25 +233,21 @@ fn replay(same: &mut [u64; 16], other: &mut [u64; 16]) -> bool {
 }
 
 // Every record. Nothing says that an input ends, so the turns are counted down from a number that no run uses up.
-fn replay_all(same: &mut [u64; 16], other: &mut [u64; 16]) {
+fn replay_all<R: Read>(records: &mut R, same: &mut [u64; 16], other: &mut [u64; 16]) {
     let mut turns = u64::MAX;
-    while turns > 0 && replay(&mut *same, &mut *other) {
+    while turns > 0 && replay(records, &mut *same, &mut *other) {
         turns -= 1;
     }
 }
 
-fn tell(name: &[u8], same: u64, other: u64) {
-    io::write_all(STDOUT_FILENO, name);
-    io::write_all(STDOUT_FILENO, b": ");
-    io::print_decimal(STDOUT_FILENO, same);
-    io::write_all(STDOUT_FILENO, b" same, ");
-    io::print_decimal(STDOUT_FILENO, other);
-    io::write_all(STDOUT_FILENO, b" other\n");
+fn tell(rt: &impl Print, name: &str, same: u64, other: u64) {
+    let _ = println!(rt; "{name}: {same} same, {other} other");
 }
 
-fn main() {
+fn main(rt: HostRuntime) {
+    let mut records = rt.stdin();
     let mut same = [0u64; 16];
     let mut other = [0u64; 16];
-    replay_all(&mut same, &mut other);
-    tell(b"set_up and feed_symbol", same[11], other[11]);
+    replay_all(&mut records, &mut same, &mut other);
+    tell(&rt, "set_up and feed_symbol", same[11], other[11]);
 }

@@ -1,10 +1,12 @@
 // Replays recorded answers of the Rust on soft values, kinds 6 to 9, from standard input, and counts, function by function, which
 // answers are the same. The buffer for an answer has as many places as the Rust gave values, with another value in each.
+#![tactic(auto)]
+
 ghost use Rattle.std.specs.Prelude.{◌≡◌, length};
 
 use fec_protection::{Description, Judged};
 use fec_viterbi::Decoding;
-use libc::STDOUT_FILENO;
+use std::io::Read;
 
 // Buffers of one call. Each promise gives only the length.
 fn some_values() -> [i8; 4096]
@@ -120,7 +122,7 @@ fn is_decoding(decoding: Decoding, bits: &[u8], answer: &[u8]) -> bool {
     match decoding {
         Decoding::Refused(_) => false,
         Decoding::Done(s) => {
-            wide(s.metric) == signed(test_records::word(answer)) && check::same(bits, &answer[4..])
+            wide(s.metric) == signed(test_records::word(answer)) && bits == &answer[4..]
         }
     }
 }
@@ -175,15 +177,15 @@ fn is_same(kind: usize, input: &[u8], answer: &[u8]) -> bool {
 }
 
 // One record: whether there was one.
-fn replay(same: &mut [u64; 16], other: &mut [u64; 16]) -> bool {
-    let kind = test_records::read_kind();
+fn replay<R: Read>(records: &mut R, same: &mut [u64; 16], other: &mut [u64; 16]) -> bool {
+    let kind = test_records::read_kind(records);
     if kind == 0 {
         return false;
     }
-    let mut input = io::large_buffer();
-    let mut answer = io::large_buffer();
-    let n = test_records::read_part(&mut input);
-    let m = test_records::read_part(&mut answer);
+    let mut input = byte_streams::large_buffer();
+    let mut answer = byte_streams::large_buffer();
+    let n = test_records::read_part(records, &mut input);
+    let m = test_records::read_part(records, &mut answer);
     if is_same(kind, &input[..n], &answer[..m]) {
         test_records::count(&mut *same, kind);
     } else {
@@ -193,28 +195,24 @@ fn replay(same: &mut [u64; 16], other: &mut [u64; 16]) -> bool {
 }
 
 // Every record. Nothing says that an input ends, so the turns are counted down from a number that no run uses up.
-fn replay_all(same: &mut [u64; 16], other: &mut [u64; 16]) {
+fn replay_all<R: Read>(records: &mut R, same: &mut [u64; 16], other: &mut [u64; 16]) {
     let mut turns = u64::MAX;
-    while turns > 0 && replay(&mut *same, &mut *other) {
+    while turns > 0 && replay(records, &mut *same, &mut *other) {
         turns -= 1;
     }
 }
 
-fn tell(name: &[u8], same: u64, other: u64) {
-    io::write_all(STDOUT_FILENO, name);
-    io::write_all(STDOUT_FILENO, b": ");
-    io::print_decimal(STDOUT_FILENO, same);
-    io::write_all(STDOUT_FILENO, b" same, ");
-    io::print_decimal(STDOUT_FILENO, other);
-    io::write_all(STDOUT_FILENO, b" other\n");
+fn tell(rt: &impl Print, name: &str, same: u64, other: u64) {
+    let _ = println!(rt; "{name}: {same} same, {other} other");
 }
 
-fn main() {
+fn main(rt: HostRuntime) {
+    let mut records = rt.stdin();
     let mut same = [0u64; 16];
     let mut other = [0u64; 16];
-    replay_all(&mut same, &mut other);
-    tell(b"depuncture_msc", same[6], other[6]);
-    tell(b"depuncture_fic", same[7], other[7]);
-    tell(b"viterbi_decode_state0", same[8], other[8]);
-    tell(b"viterbi_decode_with_metric", same[9], other[9]);
+    replay_all(&mut records, &mut same, &mut other);
+    tell(&rt, "depuncture_msc", same[6], other[6]);
+    tell(&rt, "depuncture_fic", same[7], other[7]);
+    tell(&rt, "viterbi_decode_state0", same[8], other[8]);
+    tell(&rt, "viterbi_decode_with_metric", same[9], other[9]);
 }

@@ -1,0 +1,5 @@
+-- Each turn leaves one fewer.
+use Rattle.fic.proofs.main.Given as goal
+
+abbrev pub decreases-loop-turns : goal.decreases-loop-turns
+decreases-loop-turns l = l.turns
