@@ -1,5 +1,5 @@
 //! Root of the Rust original, which comes without one. `compare/build` copies this file beside a
-//! link `rust` to the original's folder, so every module below is the original, unchanged, but for
+//! copy `rust` of the original's folder, so every module below is the original, unchanged, but for
 //! `handler_opened`: see compare/README.md.
 
 #[path = "rust/constants.rs"]
