@@ -1,7 +1,7 @@
 // The station list over plain numbers (document 02, order 1): answers as numbers in the caller's places, a refusal as its number.
 #![tactic(auto)]
 
-ghost use Rattle.std.specs.Prelude.{◌≡◌, ◌++◌, ◌≤◌, length, take};
+ghost use Rattle.std.specs.Prelude.{◌≡◌, ◌++◌, ◌≤◌, [], ◌∷◌, length, take};
 ghost use Rattle.laws.specs.Words.{pick_n};
 ghost use Rattle.refusal.specs.Outcome.{number_of, or_else};
 ghost use Rattle.fic_directory.specs.Promises.{read_as};
@@ -17,6 +17,13 @@ fn flag(on: bool) -> u64
     ensures { result ≡ pick_n on 1 0 }
 {
     if on { 1 } else { 0 }
+}
+
+// Seven numbers before nine zeros.
+fn seven(a: u64, b: u64, c: u64, d: u64, e: u64, f: u64, g: u64) -> [u64; 16]
+    ensures { result ≡ padded (a ∷ b ∷ c ∷ d ∷ e ∷ f ∷ g ∷ []) 9 }
+{
+    [a, b, c, d, e, f, g, 0, 0, 0, 0, 0, 0, 0, 0, 0]
 }
 
 // The first n of sixteen numbers into the first n places: refusal 8 where there are fewer.
@@ -66,7 +73,7 @@ fn read_values(answer: ReadAnswer) -> [u64; 16]
     ensures { result ≡ padded (counts_in (read_as answer)) 11 }
 {
     match answer {
-        ReadAnswer::Done(r) => [
+        ReadAnswer::Done(r) => seven(
             r.fibs as u64,
             r.broken as u64,
             r.first_fib as u64,
@@ -74,16 +81,7 @@ fn read_values(answer: ReadAnswer) -> [u64; 16]
             r.left_out as u64,
             0,
             0,
-            0,
-            0,
-            0,
-            0,
-            0,
-            0,
-            0,
-            0,
-            0,
-        ],
+        ),
         ReadAnswer::Refused(_) => [0; 16],
     }
 }
@@ -123,7 +121,7 @@ fn sub_values(found: SubFound) -> [u64; 16]
     ensures { result ≡ padded (description_told (given_in (sub_found_as found))) 9 }
 {
     match found {
-        SubFound::Is(d) => [
+        SubFound::Is(d) => seven(
             1,
             d.start_addr as u64,
             d.sub_size as u64,
@@ -131,16 +129,7 @@ fn sub_values(found: SubFound) -> [u64; 16]
             d.protection_level as u64,
             d.eep_option as u64,
             flag(d.is_eep),
-            0,
-            0,
-            0,
-            0,
-            0,
-            0,
-            0,
-            0,
-            0,
-        ],
+        ),
         SubFound::Absent => [0; 16],
         SubFound::Refused(_) => [0; 16],
     }
@@ -168,24 +157,7 @@ fn service_head(found: ServiceFound) -> [u64; 16]
     ensures { result ≡ padded (identity_told (given_in (service_found_as found))) 12 }
 {
     match found {
-        ServiceFound::Is(i) => [
-            1,
-            flag(i.wide),
-            i.sid as u64,
-            i.components as u64,
-            0,
-            0,
-            0,
-            0,
-            0,
-            0,
-            0,
-            0,
-            0,
-            0,
-            0,
-            0,
-        ],
+        ServiceFound::Is(i) => seven(1, flag(i.wide), i.sid as u64, i.components as u64, 0, 0, 0),
         ServiceFound::Absent => [0; 16],
         ServiceFound::Refused(_) => [0; 16],
     }

@@ -1,42 +1,22 @@
 -- From the answers of the depuncturers and decoders to a number, and to what is written.
 -- Assumes nothing.
 use mathlib.Core.Path.{◌≡◌, refl, sym, ap, ◌∙◌}
-use mathlib.Core.List.{List, [], ◌∷◌}
+use mathlib.Core.List.{List, ◌∷◌}
 use Prim.Native.Nat.{ℕ, zero, suc, ◌<◌, ◌≤◌, min}
 use native.Mathlib.Omega.{arith}
 use borrow.Author.Tests.{lt-ltb, le-ltb}
 use lib.Dec.{ltb}
-use lib.ListN.{length, drop, set}
+use lib.ListN.{length, drop}
 use lib.IntN.{ℤ}
-use Rattle.laws.proofs.Lists.{sets_front}
-use Rattle.spec_en300401.specs.Puncturing.{Region}
 use Rattle.spec_trellis.specs.Trellis.{Ends}
 use Rattle.refusal.specs.Outcome.{gives, outcome, unless_refused, number_of, check, or_else}
 use Rattle.refusal.proofs.Checks.{same_check, no_more, passed_by}
 use Rattle.refusal.proofs.Laws.{or_else_assoc, or_else-zero, or_either, number_of_lem, where_done, where_refused, untouched_by}
-use Rattle.fec_protection.specs.declared.Judged.{Judged}
-use Rattle.fec_protection.specs.Answers.{judged_as}
-use Rattle.fec_depuncturing.specs.Promises.{DepuncturePromise}
 use Rattle.fec_viterbi.specs.declared.Decoding.{Decoding}
 use Rattle.fec_viterbi.specs.declared.Decoding.TheVariants.{Done, Refused}
 use Rattle.fec_viterbi.specs.Decoders.{steps, decoder_refusal, decoded_as, metric_of, Accepted, Untouched as as-they-were, Decoded}
 use Rattle.c_fec.specs.Code.{Told, no_place}
 use Rattle.c_fec.specs.Decoders.{decoder_number, number_decoding, Untouched, Written, Decoder}
-use Rattle.c_fec.specs.Depuncturing.{Filled}
-
-pub filled : {n need : ℕ} {profile : List Region} {soft before after : List ℤ} (r : Judged) → DepuncturePromise n need profile soft before after r → (k : ℕ) → k ≡ number_of (judged_as r) → Filled n need profile soft before after k
-filled {n} r p k e = record { answer = e ∙ number_of_lem n tt p.answer; places = p.places }
-
--- a decoder's answer, as it is told
-pub told-refused : (r : Decoding) (before : List ℤ) {k : ℕ} → k ≡ number_of (decoded_as r) → (k ≡ 0 → ⊥) → Told r before before k
-told-refused r before e h = record { answer = e; place = sym (where_refused (number_of (decoded_as r)) (metric_of r ∷ drop 1 before) before (λ z. h (e ∙ z))) }
-
-pub told_done : (r : Decoding) (before : List ℤ) {k : ℕ} → k ≡ number_of (decoded_as r) → k ≡ 0 → 1 ≤ length before → {m : ℤ} → m ≡ metric_of r → Told r before (set before 0 m) 0
-told_done r before e z l {m} q =
-    record {
-      answer = sym z ∙ e;
-      place = sets_front (m ∷ []) before l ∙ ap (λ (x : ℤ). x ∷ drop 1 before) q ∙ sym (where_done (number_of (decoded_as r)) (metric_of r ∷ drop 1 before) before (sym e ∙ z));
-    }
 
 -- a done decoder's metric is that of its path
 metric_is : (r : Decoding) (m : ℤ) → decoded_as r ≡ gives m → metric_of r ≡ m

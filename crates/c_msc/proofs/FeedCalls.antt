@@ -7,10 +7,8 @@ use Prim.Native.Nat.{ℕ, zero, suc, ◌<◌, ◌≤◌}
 use native.Mathlib.Omega.{arith}
 use borrow.Author.Tests.{lt-ltb, le-ltb, ltb-false}
 use lib.Dec.{ltb}
-use lib.ListN.{length, set}
+use lib.ListN.{length}
 use lib.IntN.{ℤ}
-use lib.Ieee.{Float}
-use Rattle.laws.proofs.Lists.{sets_front}
 use Rattle.spec_en300401.specs.Interleaving.{symbol_bits}
 use Rattle.refusal.specs.Outcome.{Outcome, refuses, outcome, unless_refused, number_of, check, or_else, first_of}
 use Rattle.refusal.proofs.Checks.{clean, zeroed, later, held_not, same_check, no_more, only}
@@ -18,8 +16,6 @@ use Rattle.refusal.proofs.Laws.{or_else-zero, or_given, or_other, or_either, fir
 use Rattle.refusal.specs.declared.Refusal.{Refusal}
 use Rattle.msc_state.specs.declared.State.{State}
 use Rattle.msc_state.specs.States.{bad_state, is_too_short, feed_refusal}
-use Rattle.msc_handler.specs.declared.Answer.{Answer}
-use Rattle.msc_handler.specs.declared.Answer.TheVariants.{Frame}
 use Rattle.msc_handler.specs.declared.Fed.{Fed}
 use Rattle.msc_handler.specs.Promises.{said_of, Buffers, lengths_of, refusal_in, FeedPromise}
 use Rattle.msc_handler.proofs.Feeding.{fed-refuses, fed-number}
@@ -29,7 +25,7 @@ use Rattle.c_state.specs.declared.Reading.TheVariants.{Read, Refused}
 use Rattle.c_state.specs.Numbers.{state_in, out_of_range, state_checks, state_refusal, read_as}
 use Rattle.c_state.proofs.Numbers.{readable}
 use Rattle.c_msc.specs.Code.{no_places, few_places, beside_of, places_refusal, EnoughPlaces, fed_put, FedTold}
-use Rattle.c_msc.specs.Msc.{feed_number, number_fed, FedPlaces, percent_put, FeedUntouched, FeedWritten, FeedCall}
+use Rattle.c_msc.specs.Msc.{feed_number, number_fed, FedPlaces, FeedUntouched, FeedWritten, FeedCall}
 use Rattle.c_msc.proofs.MscCalls.{held}
 
 -- ---- the places of the answer
@@ -191,16 +187,6 @@ module _ {soft : List ℤ} {b : Buffers} (f : FedPlaces) (none : places_refusal 
             buffers_are = (fed-refuses (state_in f.state) soft b promised (λ y. one (number_is soft b f none ∙ y))).1;
             places_are = t.places ∙ where_refused _ (fed_put r f) f (λ y. one (sym same ∙ y));
           }
-
--- an answer, as it is written
-pub percent-put : (a : Answer) (n : ℕ) (p : Float) → a ≡ Frame n p → (xs : List Float) → 1 ≤ length xs → set xs 0 p ≡ percent_put a xs
-percent-put a n p q xs l = sets_front (p ∷ []) xs l ∙ sym (ap (λ (b : Answer). percent_put b xs) q)
-
-pub told-refused : (r : Fed) (f : FedPlaces) {k : ℕ} → k ≡ number_of (said_of r.answer) → (k ≡ 0 → ⊥) → FedTold r f f k
-told-refused r f e h = record { answer = e; places = sym (where_refused (number_of (said_of r.answer)) (fed_put r f) f (λ z. h (e ∙ z))) }
-
-pub told_given : (r : Fed) (f f' : FedPlaces) {k : ℕ} → k ≡ number_of (said_of r.answer) → k ≡ 0 → {number : ℕ} → number ≡ 0 → f' ≡ fed_put r f → FedTold r f f' number
-told_given r f f' e z q g = record { answer = q ∙ sym z ∙ e; places = g ∙ sym (where_done (number_of (said_of r.answer)) (fed_put r f) f (sym e ∙ z)) }
 
 -- ---- what a caller may take of a call, by its answer
 

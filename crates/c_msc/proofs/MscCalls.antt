@@ -10,7 +10,7 @@ use lib.ListN.{length}
 use lib.IntN.{ℤ}
 use Rattle.refusal.specs.Outcome.{outcome, number_of, or_else}
 use Rattle.refusal.proofs.Checks.{among, last-check, same_check, no_more, passed_by}
-use Rattle.refusal.proofs.Laws.{or_else_assoc, or_else-zero, or_given, or_other, or_either, number_of_lem, where_done, where_refused, refused-number, is_refusal, given_number, given_value}
+use Rattle.refusal.proofs.Laws.{or_else_assoc, or_else-zero, or_either, number_of_lem, where_refused, refused-number, is_refusal, given_number, given_value}
 use Rattle.refusal.specs.declared.Refusal.{Refusal}
 use Rattle.fec_protection.specs.declared.Description.{Description}
 use Rattle.fec_protection.specs.Answers.{judged_as}
@@ -20,7 +20,6 @@ use Rattle.msc_state.specs.States.{ring_length, fresh_state, set_up_refusal, res
 use Rattle.msc_set_up.specs.declared.SetUp.{SetUp}
 use Rattle.msc_set_up.specs.Promises.{Prepared, ResetPromise, cleared}
 use Rattle.c_description.specs.Places.{short, Wrote}
-use Rattle.c_description.proofs.Places.{wrote_nothing}
 use Rattle.c_state.specs.declared.Reading.{Reading}
 use Rattle.c_state.specs.declared.Reading.TheVariants.{Read, Refused}
 use Rattle.c_state.specs.Numbers.{numbers_of, state_in, state_checks, state_put, state_refusal, read_as}
@@ -46,12 +45,6 @@ pub held : (n : ℕ) (s : State) (r : Reading) → read_as r ≡ outcome n s →
 held n s r e t q = let z = sym (ap read_as q) ∙ e in record { none = given_number n s t z; state_is = given_value n s t z }
 
 -- no places for the state: the description's refusal, else 8, whatever the ring is
-pub refused_eight : (n k : ℕ) → k ≡ n → (k ≡ 0 → ⊥) → k ≡ or_else n 8
-refused_eight n k e h = e ∙ sym (or_given n 8 (λ z. h (e ∙ z)))
-
-pub accepted_eight : (n k : ℕ) → k ≡ n → k ≡ 0 → 8 ≡ or_else n 8
-accepted_eight n k e z = sym (or_other n 8 (sym e ∙ z))
-
 no_state-is : (d : Description) (ring state : ℕ) → state < 11 → no_state d ≡ set_up_number d ring state
 unfolding set_up_number set_up_refusal
 no_state-is d ring state h =
@@ -73,25 +66,6 @@ no_places_lem {d} {ring} state k h e =
 pub places : (d : Description) (ring : ℕ) (state : List ℕ) → 11 ≤ length state → set_up_refusal d ring ≡ set_up_number d ring (length state)
 unfolding set_up_number
 places d ring state h = rw (le-ltb _ _ h) (sym (or_else-zero (set_up_refusal d ring)))
-
--- a state written where there are eleven places
-pub record Written (s : State) (before : List ℕ) (k : ℕ) (after : List ℕ) : Type 0 where
-  pub number_is : k ≡ 0
-  pub state_is : after ≡ state_put s before
-
-eleven : (before : List ℕ) → 11 ≤ length before → short 11 (length before) ≡ 0
-eleven before l = rw (le-ltb _ _ l) refl
-
-pub written : (s : State) (before : List ℕ) → 11 ≤ length before → {k : ℕ} {after : List ℕ} → Wrote (short 11 (length before)) 11 (numbers_of s) before after k → Written s before k after
-written s before l w = record { number_is = w.answer ∙ eleven before l; state_is = w.places ∙ where_done (short 11 (length before)) (state_put s before) before (eleven before l) }
-
--- what was made, in its places
-pub made_refused : (r : SetUp) (before : List ℕ) {k : ℕ} → k ≡ number_of (judged_as r.answer) → (k ≡ 0 → ⊥) → Wrote (number_of (judged_as r.answer)) 11 (numbers_of r.state) before before k
-made_refused r before e h = wrote_nothing (number_of (judged_as r.answer)) 11 (numbers_of r.state) before e (λ z. h (e ∙ z))
-
-pub made_given : (r : SetUp) (before : List ℕ) {k : ℕ} → k ≡ number_of (judged_as r.answer) → k ≡ 0 → 11 ≤ length before → {after : List ℕ} {number : ℕ} → Wrote (short 11 (length before)) 11 (numbers_of r.state) before after number
-    → Wrote (number_of (judged_as r.answer)) 11 (numbers_of r.state) before after number
-made_given r before e z l {after} {number} w = subst (λ (n : ℕ). Wrote n 11 (numbers_of r.state) before after number) (eleven before l ∙ sym z ∙ e) w
 
 module _ {d : Description} {other : State} {ring : List ℤ} {r : SetUp} {ring' : List ℤ} {state : List ℕ} where
   made_by : (n : ℕ) → Prepared n d other ring r ring' → {k : ℕ} {state' : List ℕ} → Wrote n 11 (numbers_of r.state) state state' k → Readied n d ring state k ring' state'

@@ -9,12 +9,6 @@ use Rattle.refusal.proofs.Laws.{or_else-zero}
 use Rattle.fec_protection.specs.Refusals.{outside, eep_shape, uep_shape}
 
 module _ (start size : ℕ) where
-  pub place-refused : 864 < start + size → outside start size ≡ 7
-  place-refused h = rw (lt-ltb 864 (start + size) h) refl
-
-  pub place_given : start + size ≤ 864 → outside start size ≡ 0
-  place_given h = rw (le-ltb 864 (start + size) h) refl
-
   module _ (option rate needed : ℕ) where
     pub size-refused : (64 * size ≡ needed → ⊥) → first_of (eep_shape option rate start size needed) ≡ 5
     unfolding eep_shape

@@ -8,7 +8,7 @@ use Rattle.spec_en300401.specs.Puncturing.{Region, kept_size}
 use Rattle.spec_en300401.proofs.Puncturing.{Usable}
 use Rattle.refusal.specs.declared.Refusal.{Refusal}
 use Rattle.refusal.specs.Outcome.{gives, outcome, unless_refused, or_else, first_of}
-use Rattle.refusal.proofs.Laws.{given_number, given_value, still_refused, first-refused}
+use Rattle.refusal.proofs.Laws.{given_number, given_value, first-refused}
 use Rattle.fec_protection.specs.declared.Description.{Description}
 use Rattle.fec_protection.specs.declared.Judged.{Judged}
 use Rattle.fec_protection.specs.declared.Judged.TheVariants.{«Accepted» as judged-accepted, «Refused» as judged-refused}
@@ -45,10 +45,6 @@ module _ (d : Description) {r : Lookup} (p : RowPromise (row_refusal_of d) (prof
     -- a size of the params that is the profile's
     pub size_given : (size : List Region → ℕ) (n : ℕ) → n ≡ size (profile_of d) → SizePromise size d (Values n)
     size_given size n e = record { answer = ap gives e ∙ ap (λ (m : ℕ). outcome m (size (profile_of d))) (sym row-none) }
-
-  -- refused: the same refusal
-  pub size-refused : (size : List Region → ℕ) (x : Refusal) → r.judged ≡ judged-refused x → SizePromise size d (refused-size x)
-  size-refused size x q = record { answer = still_refused (row_refusal_of d) tt (size (profile_of d)) x.number (sym (ap judged_as q) ∙ p.answer) }
 
 -- the judgement, from the needed size
 module _ (d : Description) {s : Size} (p : SizePromise kept_size d s) where

@@ -18,7 +18,7 @@ use Rattle.spec_en300401.specs.Directory.{fibs_in, counted, broken_fibs, Broken,
 use Rattle.fic_directory_places.specs.Places.{Held}
 use Rattle.fic_directory.specs.declared.Reading.{Reading}
 use Rattle.fic_directory.specs.Promises.{Entered, entered, put_all, fibs_of, entries_of_fibs, read_into, reading_of}
-use Rattle.fic_directory.specs.Code.{figs_from, FieldDone, Few, noted_by, no_reading, AllRead}
+use Rattle.fic_directory.specs.Code.{figs_from, FieldDone, Few, noted_by, AllRead}
 use Rattle.fic_directory.proofs.Figs.{all_append}
 use Rattle.fic_directory.proofs.Notes.{reading}
 
@@ -42,23 +42,6 @@ pub record Going (bytes : List ℕ) (old now : Held) (r : Reading) (at : ℕ) : 
   pub brokens : broken_fibs (fibs_of bytes) ≡ r.broken + broken_fibs (fibs_from at bytes)
   pub first : first_broken 0 (fibs_of bytes) ≡ first_or r (first_broken r.fibs (fibs_from at bytes))
   pub none_yet : r.broken ≡ 0 → (r.first_fib ≡ 0) × (r.first_offset ≡ 0)
-
-pub begin : (bytes : List ℕ) (h : Held) → Going bytes h h no_reading 0
-begin bytes h =
-    let all : fibs_of bytes ≡ fibs_from 0 bytes = ap (λ (n : ℕ). fibs_in (n / fib_bytes) bytes) (whole (length bytes)) in
-    record {
-      inside = omega arith;
-      count = refl;
-      broken_few = omega arith;
-      left_few = omega arith;
-      puts = ap (λ (fs : List (List ℕ)). put_all (entries_of_fibs fs) (entered h 0)) all;
-      brokens = ap broken_fibs all ∙ omega arith;
-      first = ap (first_broken 0) all;
-      none_yet = λ e. (refl, refl);
-    }
-  where
-    whole : (n : ℕ) → n ≡ n - 0
-    whole n = omega arith
 
 -- one FIB more
 one_more : (bytes : List ℕ) (at : ℕ) → 32 ≤ length bytes - at → fibs_from at bytes ≡ take 32 (drop at bytes) ∷ fibs_from (at + 32) bytes

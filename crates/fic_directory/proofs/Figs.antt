@@ -153,9 +153,6 @@ pub record Walked (field : List ℕ) (old now : Held) (left at : ℕ) : Type 0 w
   pub broken_same : (figs_from at field).broken ≡ (figs_from 0 field).broken
   pub puts : (n : ℕ) → put_all (entries_of_all (figs_from 0 field).figs) (entered old n) ≡ put_all (entries_of_all (figs_from at field).figs) (entered now (n + left))
 
-pub walk_start : (field : List ℕ) (h : Held) → Walked field h h 0 0
-walk_start field h = record { inside = omega arith; few = omega arith; broken_same = refl; puts = λ n. ap (λ (m : ℕ). put_all (entries_of_all (figs_from 0 field).figs) (entered h m)) (zero_more n) }
-
 -- the walk is over where no FIG is left
 over : {field : List ℕ} {old now : Held} {left at : ℕ} (f : Field) → Walked field old now left at → f.figs ≡ [] → figs_from at field ≡ f → FieldDone field old f.broken left now
 unfolding put_all entries_of_all

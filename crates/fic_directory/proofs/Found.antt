@@ -91,9 +91,6 @@ one f xs p h =
     ∙ (λ i. cond (f (place_is xs p h i)) (some p) (first_place f (sym (add-one p) i) (drop (sym (add-one p) i) (services_of xs))))
 
 module _ {f : Option Service → Bool} {xs : List ℕ} where
-  pub search_start : Searched f xs 0
-  search_start = record { inside = omega arith; same = refl }
-
   pub search_hit : {p : ℕ} → Searched f xs p → p < 64 → f (service_at xs (4 * p)) ≡ true → p ≡ place_number (first_place f 0 (services_of xs))
   search_hit {p} v h t = sym (ap place_number (v.same ∙ one f xs p h ∙ ap (λ (b : Bool). cond b (some p) (first_place f (p + 1) (drop (p + 1) (services_of xs)))) t))
 

@@ -64,14 +64,6 @@ key_narrow false [] p t w e h = absurd (omega (arith, w.head))
 key_narrow false (a ∷ []) p t w e h = absurd (omega (arith, w.head))
 key_narrow false (a ∷ b ∷ rest) p t w e h = record { is = omega arith; small = omega arith; sid = omega arith }
 
-pub two_there : (wide : Bool) (rest : List ℕ) → Whole wide rest → 2 < length rest
-two_there true rest w = omega (arith, w.head)
-two_there false rest w = omega (arith, w.head)
-
-pub four_there : (wide : Bool) (rest : List ℕ) → wide ≡ true → Whole wide rest → 4 < length rest
-four_there true rest e w = w.head
-four_there false rest e w = let z : ◌≡◌ {A = ℕ} 0 1 = cc in absurd (omega arith)
-
 -- ---- the components
 
 pub length_pairs : (n : ℕ) (xs : List ℕ) → length xs ≡ 2 * n → length (pairs_of xs) ≡ n
@@ -139,9 +131,6 @@ pub four_is : (xs : List ℕ) (j a b c d : ℕ) → a ≡ get_or (pairs_of xs) (
     → a + b * 65536 + c * 4294967296 + d * 281474976710656 ≡ component_word (pairs_of xs) j
 unfolding component_word
 four_is xs j a b c d e f g h = (λ i. e i + f i * 65536 + g i * 4294967296 + h i * 281474976710656)
-
-pub fits_whole : (wide : Bool) (rest : List ℕ) (h f : ℕ) → h ≡ sid_bytes wide → f ≡ get_or rest h 0 % 16 → Whole wide rest → h + 1 + 2 * f ≤ length rest
-fits_whole wide rest h f e g w = omega (arith, bytes-is wide rest h f e g, w.all)
 
 -- ---- a service entered
 

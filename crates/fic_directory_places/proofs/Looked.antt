@@ -6,9 +6,8 @@ use mathlib.Core.List.{List, ◌∷◌, ◌++◌}
 use mathlib.Core.Option.{Option, none, some}
 use Prim.Native.Nat.{ℕ, suc, ◌+◌, ◌*◌, ◌/◌, ◌%◌, ◌^◌, ◌-◌, ◌<◌, ◌≤◌, min}
 use native.Mathlib.Omega.{arith}
-use native.Mathlib.Nat.{div-one}
-use borrow.Author.Tests.{lt-ltb, le-ltb, eq-eqb, ne_eqb, ltb-true, ltb-false}
-use lib.Dec.{eqb, ltb}
+use borrow.Author.Tests.{le-ltb, eq-eqb, ne_eqb, ltb-true, ltb-false}
+use lib.Dec.{ltb}
 use lib.ListN.{length, get_or, replicate, take, drop, length-take, length-append, length-replicate, get_or-replicate, get_or-eq_default, get_or-append, drop_of_length-le}
 use lib.Seq.{drop-cons, get_or-take, get_or-append-add, ext_get_or}
 use Rattle.refusal.specs.Outcome.{gives, outcome, unless_refused}
@@ -19,18 +18,15 @@ use Rattle.spec_en300401.specs.Organisation.{SubChannel, Service, primary_audio,
 use Rattle.spec_en300401.specs.Directory.{places}
 use Rattle.fec_protection.specs.declared.Description.{Description}
 use Rattle.fic_directory_places.specs.declared.SubFound.{SubFound}
-use Rattle.fic_directory_places.specs.declared.SubFound.TheVariants.{«Is» as sub_is, «Absent» as sub-absent, «Refused» as sub-refused}
-use Rattle.fic_directory_places.specs.declared.ServiceFound.TheVariants.{«Is» as service-is, «Absent» as service-absent, «Refused» as service-refused}
+use Rattle.fic_directory_places.specs.declared.SubFound.TheVariants.{«Is» as sub_is, «Absent» as sub-absent}
+use Rattle.fic_directory_places.specs.declared.ServiceFound.TheVariants.{«Is» as service-is, «Absent» as service-absent}
 use Rattle.fic_directory_places.specs.declared.ServiceAnswer.{ServiceAnswer}
 use Rattle.fic_directory_places.specs.declared.Identity.{Identity}
 use Rattle.fic_directory_places.specs.declared.AudioFound.{AudioFound}
-use Rattle.fic_directory_places.specs.declared.AudioFound.TheVariants.{«Is» as audio-is, «Absent» as audio-absent, «Refused» as audio-refused}
+use Rattle.fic_directory_places.specs.declared.AudioFound.TheVariants.{«Is» as audio-is, «Absent» as audio-absent}
 use Rattle.fic_directory_places.specs.Places.{field, flag_at, sub_in, subs_of, service_at, services_of, most_components}
 use Rattle.fic_directory_places.specs.Code.{fields_of, component_count, component_at, components_at, identity_in}
 use Rattle.fic_directory_places.specs.Promises.{services_refusal, description_of, described, sub_found_as, SubPromise, identity_of, words_of, service_found_as, ServicePromise, audio_found_as, audio_of, AudioPromise}
-
-pub description-is : (w : ℕ) → record { start_addr = w % 65536; sub_size = w / 65536 % 65536; bitrate = w / 4294967296 % 65536; protection_level = w / 281474976710656 % 256; eep_option = w / 72057594037927936 % 16; is_eep = eqb (w / 1152921504606846976 % 2) 1 } ≡ description_of (fields_of w)
-description-is w = (λ i. record { start_addr = sym (div-one w) i % 65536; sub_size = w / 65536 % 65536; bitrate = w / 4294967296 % 65536; protection_level = w / 281474976710656 % 256; eep_option = w / 72057594037927936 % 16; is_eep = eqb (w / 1152921504606846976 % 2) 1 })
 
 -- ---- a sub-channel
 
@@ -44,9 +40,6 @@ module _ (subs : List ℕ) (id : ℕ) where
   place_is : id < 64 → there ≡ sub_in w
   unfolding subs_of
   place_is h = list_of-at places (λ (p : ℕ). sub_in (get_or subs p 0)) none id h
-
-  pub sub-few : length subs < 64 → SubPromise subs id (sub-refused (record { number = 12 }))
-  sub-few h = record { answer = sym (ap (λ (b : Bool). outcome (cond b 12 0) (described there)) (lt-ltb (length subs) 64 h)) }
 
   given : (r : SubFound) → 64 ≤ length subs → (o : Option SubChannel) → there ≡ o → sub_found_as r ≡ gives (described o) → SubPromise subs id r
   given r h o e f = record { answer = f ∙ ap (λ (x : Option SubChannel). gives (described x)) (sym e) ∙ sym (ap (λ (b : Bool). outcome (cond b 12 0) (described there)) (le-ltb (length subs) 64 h)) }
@@ -64,9 +57,6 @@ module _ (subs : List ℕ) (id : ℕ) where
   sub_unmarked h l m = given sub-absent h none (place_is l ∙ rw (ne_eqb (w / 2 ^ 61 % 2) 1 m)) refl
 
 -- ---- a service
-
-pub identity_is : (w n : ℕ) → n ≡ component_count w → record { wide = eqb (w / 4294967296 % 2) 1; sid = w % 4294967296; components = n } ≡ identity_in w
-identity_is w n e = (λ i. record { wide = eqb (w / 4294967296 % 2) 1; sid = sym (div-one w) i % 4294967296; components = e i })
 
 module _ (services : List ℕ) (place : ℕ) where
   abbrev head : ℕ
@@ -94,18 +84,8 @@ module _ (services : List ℕ) (place : ℕ) where
   unfolding services_of
   here_past l = get_or-eq_default (services_of services) none (subst (λ (n : ℕ). n ≤ place) (sym (length-list_of places (λ (p : ℕ). service_at services (4 * p)))) l)
 
-  few : (h : length services < 256) → services_refusal (length services) ≡ 12
-  few h = rw (lt-ltb (length services) 256 h)
-
   enough : (h : 256 ≤ length services) → services_refusal (length services) ≡ 0
   enough h = rw (le-ltb (length services) 256 h)
-
-  pub service-few : (r : ServiceAnswer) → length services < 256 → r.found ≡ service-refused (record { number = 12 }) → r.words ≡ replicate 12 0 → ServicePromise services place r
-  service-few r h e f =
-      record {
-        answer = ap service_found_as e ∙ sym (ap (λ (n : ℕ). outcome n (identity_of here)) (few h));
-        words = f ∙ sym (ap (λ (n : ℕ). unless_refused n (words_of here) (replicate most_components 0)) (few h));
-      }
 
   given_service : (r : ServiceAnswer) (o : Option Service) → 256 ≤ length services → here ≡ o → service_found_as r.found ≡ gives (identity_of o) → r.words ≡ words_of o → ServicePromise services place r
   given_service r o h e f g =
@@ -132,9 +112,6 @@ module _ (services : List ℕ) (place : ℕ) where
       (f ∙ ap (λ (x : Identity). take 12 (components_at services (4 * place) x.components ++ replicate 12 0)) e)
 
   -- ---- its audio
-
-  pub audio_few : length services < 256 → AudioPromise services place (audio-refused (record { number = 12 }))
-  audio_few h = record { answer = sym (ap (λ (n : ℕ). outcome n (audio_of here)) (few h)) }
 
   given_audio : (r : AudioFound) (o : Option Service) → 256 ≤ length services → here ≡ o → audio_found_as r ≡ gives (audio_of o) → AudioPromise services place r
   given_audio r o h e f = record { answer = f ∙ ap (λ (x : Option Service). gives (audio_of x)) (sym e) ∙ sym (ap (λ (n : ℕ). outcome n (audio_of here)) (enough h)) }

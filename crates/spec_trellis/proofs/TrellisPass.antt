@@ -21,9 +21,6 @@ use Rattle.spec_trellis.proofs.TrellisSubtracted.{running-within}
 
 -- ---- the greatest of some values
 
-only_zero : (s : ℕ) → s < 1 → 0 ≡ s
-only_zero s h = omega arith
-
 -- a bound on the first n values and on value n
 bound_next : (σ : ℕ → ℤ) (n : ℕ) (x : ℤ) → σ n ≤ℤ x → ((s : ℕ) → s < n → σ s ≤ℤ x) → (s : ℕ) → s < n + 1 → σ s ≤ℤ x
 bound_next σ n x h f s l = pick (ℕ_discrete s n)
@@ -31,9 +28,6 @@ bound_next σ n x h f s l = pick (ℕ_discrete s n)
     pick : Dec (s ≡ n) → σ s ≤ℤ x
     pick (yes e) = subst (λ (k : ℕ). σ k ≤ℤ x) (sym e) h
     pick (no e) = f s (omega arith)
-
-pub greatest_one : (σ : ℕ → ℤ) → Greatest σ 1 (σ 0)
-greatest_one σ = record { above = λ s h. subst (λ (m : ℕ). σ m ≤ℤ σ 0) (only_zero s h) (≤ℤ_refl (σ 0)); place = 0; place_lt = omega arith; is = refl }
 
 pub greatest_next : (σ : ℕ → ℤ) (n : ℕ) (m : ℤ) → Greatest σ n m → Greatest σ (n + 1) (pick_z (lt_z m (σ n)) (σ n) m)
 greatest_next σ n m t = go (lt_z m (σ n)) refl
@@ -53,9 +47,6 @@ greatest_next σ n m t = go (lt_z m (σ n)) refl
           place_lt = omega (arith, t.place_lt);
           is = t.is;
         }
-
-pub first_one : (σ : ℕ → ℤ) → FirstGreatest σ 1 0
-first_one σ = record { below = omega arith; above = λ s h. subst (λ (m : ℕ). σ m ≤ℤ σ 0) (only_zero s h) (≤ℤ_refl (σ 0)); first = λ s h. absurd (omega arith) }
 
 pub first_next : (σ : ℕ → ℤ) (n p : ℕ) → FirstGreatest σ n p → FirstGreatest σ (n + 1) (pick_n (lt_z (σ p) (σ n)) n p)
 first_next σ n p t = go (lt_z (σ p) (σ n)) refl

@@ -1,12 +1,12 @@
 -- The trace back: the path that the words of the choices give, read backwards from its end, is the survivor.
 -- Assumes nothing.
-use mathlib.Core.Path.{◌≡◌, refl, sym, ap, ap₂, ◌∙◌, subst}
+use mathlib.Core.Path.{◌≡◌, refl, sym, ap, ap₂, ◌∙◌}
 use mathlib.Core.Bool.{Bool, true, false}
-use mathlib.Core.List.{List, [], ◌∷◌, ◌++◌, map, reverse, append_assoc, append-nil, reverse_aux-eq}
+use mathlib.Core.List.{List, [], ◌∷◌, ◌++◌, map, reverse, append_assoc, reverse_aux-eq}
 use Prim.Native.Nat.{ℕ, zero, suc, ◌+◌, ◌*◌, ◌/◌, ◌%◌, ◌^◌, ◌<◌}
 use native.Mathlib.Omega.{arith}
 use lib.ListN.{length, get_or, set, drop}
-use lib.Seq.{drop-cons, lt-length-set, get_or-set_same, drop-set-lt, drop-length}
+use lib.Seq.{drop-cons, lt-length-set, get_or-set_same, drop-set-lt}
 use lib.IntN.{ℤ}
 use Rattle.laws.specs.Words.{pick_n, word_of}
 use Rattle.laws.proofs.Words.{word_bit}
@@ -24,10 +24,6 @@ pub traced-zero : (words : List ℕ) (t : ℕ) → traced words 0 t ≡ []
 unfolding traced
 traced-zero words t = refl
 
-pub came-lt : (words : List ℕ) (k t : ℕ) → t < 64 → came_from words k t < 64
-unfolding came_from
-came-lt words k t h = omega arith
-
 -- one turn of a loop that writes the bits from the last to the first
 pub turn : (words bits all : List ℕ) (k t : ℕ) → k < length bits → all ≡ traced words (suc k) t ++ drop (suc k) bits → all ≡ traced words k (came_from words k t) ++ drop k (set bits k (t % 2))
 turn words bits all k t h e =
@@ -39,9 +35,6 @@ turn words bits all k t h e =
     here =
         drop-cons (set bits k (t % 2)) k 0 (lt-length-set bits k (t % 2) h)
         ∙ ap₂ (λ (a : ℕ) (l : List ℕ). a ∷ l) (get_or-set_same bits k (t % 2) 0 h) (drop-set-lt (suc k) bits k (t % 2) (omega arith))
-
-pub turn-start : (words bits : List ℕ) (n t : ℕ) → length bits ≡ n → traced words n t ≡ traced words n t ++ drop n bits
-turn-start words bits n t e = sym (ap (λ (l : List ℕ). traced words n t ++ l) (subst (λ (k : ℕ). drop k bits ≡ []) e (drop-length bits)) ∙ append-nil (traced words n t))
 
 pub pred_same : (xs : List ℤ) (words : List ℕ) (k t : ℕ) → t < 64 → get_or words k 0 ≡ word_of (takes_at xs k) 64 → came_from words k t ≡ pred_of xs k t
 unfolding came_from pred_of
