@@ -15,6 +15,7 @@ use Rattle.fec_protection.specs.declared.Judged.TheVariants.{«Accepted» as jud
 use Rattle.fec_protection.specs.declared.Size.{Size}
 use Rattle.fec_protection.specs.declared.Size.TheVariants.{Values, «Refused» as refused-size}
 use Rattle.fec_protection.specs.declared.Lookup.{Lookup}
+use Rattle.fec_protection.specs.declared.ProtectionParams.{ProtectionParams}
 use Rattle.fec_protection.specs.Answers.{judged_as, sized_as}
 use Rattle.fec_protection.specs.Code.{Bounded}
 use Rattle.fec_protection.specs.Params.{params_of}
@@ -42,9 +43,11 @@ module _ (d : Description) {r : Lookup} (p : RowPromise (row_refusal_of d) (prof
     pub row_bounded : d.bitrate < 65536 → Bounded r.params
     row_bounded h = subst Bounded (sym row_params) (params_bounded (profile_of d) (row_usable h))
 
-    -- a size of the params that is the profile's
-    pub size_given : (size : List Region → ℕ) (n : ℕ) → n ≡ size (profile_of d) → SizePromise size d (Values n)
-    size_given size n e = record { answer = ap gives e ∙ ap (λ (m : ℕ). outcome m (size (profile_of d))) (sym row-none) }
+    -- a size of the params that is the profile's, by a rule that holds of every usable one
+    pub size_by :
+        (size : List Region → ℕ) (rule : ProtectionParams → ℕ) (n : ℕ) → d.bitrate < 65536 → (Usable (profile_of d) → rule (params_of (profile_of d)) ≡ size (profile_of d)) → n ≡ rule r.params
+        → SizePromise size d (Values n)
+    size_by size rule n h law e = record { answer = ap gives (e ∙ ap rule row_params ∙ law (row_usable h)) ∙ ap (λ (m : ℕ). outcome m (size (profile_of d))) (sym row-none) }
 
 -- the judgement, from the needed size
 module _ (d : Description) {s : Size} (p : SizePromise kept_size d s) where

@@ -58,14 +58,6 @@ module _ {ℓ} {A : Type ℓ} where
   given_by zero a b z e = ap gives e
   given_by (suc n) a b z e = absurd (omega (arith, z))
 
-  -- a refusal of one outcome is a refusal of every outcome with its number
-  pub still_refused {κ} : {B : Type κ} (n : ℕ) (a : A) (b : B) (k : ℕ) → refuses k ≡ outcome n a → refuses k ≡ outcome n b
-  still_refused n a b k e = still n k e
-    where
-      still : (n k : ℕ) → refuses k ≡ outcome n a → refuses k ≡ outcome n b
-      still zero k e = let z : ◌≡◌ {A = ℕ} 0 1 = cc in absurd (omega arith)
-      still (suc n) k e = let z : k ≡ suc n = cc in ap refuses z
-
   -- and of what is checked first and more after it
   pub first-refused {κ} : {B : Type κ} (n m : ℕ) (a : A) (b : B) (k : ℕ) → refuses k ≡ outcome n a → refuses k ≡ outcome (or_else n m) b
   first-refused n m a b k e = still n k e
