@@ -14,18 +14,18 @@ hundred : of_bits binary64 4636737291354636288 ≡ of_int binary64 (pos 100)
 unfolding of_bits of_int
 hundred = refl
 
-zero-sum : (m z : ℤ) → SFits w32 z → of_z w32 z ≡ 0 → of_bits binary64 0 ≡ percent_of m (nat_abs z)
+zero_sum : (m z : ℤ) → SFits w32 z → of_z w32 z ≡ 0 → of_bits binary64 0 ≡ percent_of m (nat_abs z)
 unfolding of_bits percent_of
-zero-sum m z f e = ap (λ (s : ℤ). percent_of m (nat_abs s)) (sym (ap (to_z w32) e) ∙ to_z-of_z f)
+zero_sum m z f e = ap (λ (s : ℤ). percent_of m (nat_abs s)) (sym (ap (to_z w32) e) ∙ to_z-of_z f)
 
-some-sum : (m z : ℤ) → pos (nat_abs z) ≡ z → (of_z w32 z ≡ 0 → ⊥) → mul binary64 (div binary64 (of_int binary64 m) (of_int binary64 z)) (of_bits binary64 4636737291354636288) ≡ percent_of m (nat_abs z)
+some_sum : (m z : ℤ) → pos (nat_abs z) ≡ z → (of_z w32 z ≡ 0 → ⊥) → mul binary64 (div binary64 (of_int binary64 m) (of_int binary64 z)) (of_bits binary64 4636737291354636288) ≡ percent_of m (nat_abs z)
 unfolding percent_of
-some-sum m (pos zero) e h = absurd (h refl)
-some-sum m (pos (suc n)) e h = ap (mul binary64 (div binary64 (of_int binary64 m) (of_int binary64 (pos (suc n))))) hundred
-some-sum m (negsuc n) e h = absurd (pos-ne-negsuc _ _ e)
+some_sum m (pos zero) e h = absurd (h refl)
+some_sum m (pos (suc n)) e h = ap (mul binary64 (div binary64 (of_int binary64 m) (of_int binary64 (pos (suc n))))) hundred
+some_sum m (negsuc n) e h = absurd (pos-ne-negsuc _ _ e)
 
 pub returns-then-sum-eq0 : goal.returns-then-sum-eq0
-returns-then-sum-eq0 c = zero-sum c.args.metric c.args.sum c.ranges.sum c.if-sum-eq0.true
+returns-then-sum-eq0 c = zero_sum c.args.metric c.args.sum c.ranges.sum c.if-sum-eq0.true
 
 pub returns : goal.returns
-returns c = rw (to_z-of_z c.ranges.metric, to_z-of_z c.ranges.sum) (some-sum c.args.metric c.args.sum c.requires c.if-sum-eq0.false)
+returns c = rw (to_z-of_z c.ranges.metric, to_z-of_z c.ranges.sum) (some_sum c.args.metric c.args.sum c.requires c.if-sum-eq0.false)

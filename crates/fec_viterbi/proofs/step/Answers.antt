@@ -18,8 +18,8 @@ softs f0 f1 f2 f3 h = rw (to_z-of_z f0, to_z-of_z f1, to_z-of_z f2, to_z-of_z f3
 small : {corr : List ℤ} {v0 v1 v2 v3 : ℤ} → Correlations corr v0 v1 v2 v3 → Soft v0 v1 v2 v3 → (p : ℕ) → p < 16 → nat_abs (at corr p) ≤ 512
 small {v0 = v0} {v1} {v2} {v3} c s p h = omega (arith, ap nat_abs (c.is p h), correlation_abs p v0 v1 v2 v3 s)
 
-corr-is : {corr : List ℤ} {v0 v1 v2 v3 : ℤ} → Correlations corr v0 v1 v2 v3 → (s b : ℕ) → at corr (pattern_of s b) ≡ branch_of v0 v1 v2 v3 s b
-corr-is {v0 = v0} {v1} {v2} {v3} c s b = c.is (pattern_of s b) (pattern_lt s b) ∙ correlation_branch s b v0 v1 v2 v3
+corr_is : {corr : List ℤ} {v0 v1 v2 v3 : ℤ} → Correlations corr v0 v1 v2 v3 → (s b : ℕ) → at corr (pattern_of s b) ≡ branch_of v0 v1 v2 v3 s b
+corr_is {v0 = v0} {v1} {v2} {v3} c s b = c.is (pattern_of s b) (pattern_lt s b) ∙ correlation_branch s b v0 v1 v2 v3
 
 pub loop-t-init : goal.loop-t-init
 loop-t-init c = record { below = omega arith; size = refl; word_is = sym (word_zero _); word_lt = omega arith; each = λ k h. absurd (omega arith) }
@@ -38,8 +38,8 @@ loop-t-preserved c =
     let σ = at a.scores in
     let β = branch_of (to_z w32 (of_z w32 a.v0)) (to_z w32 (of_z w32 a.v1)) (to_z w32 (of_z w32 a.v2)) (to_z w32 (of_z w32 a.v3)) in
     let k = c.correlations-corr.ensures in
-    let lo : to_z w32 (of_z w32 c.way-lo.result) ≡ low_way σ β t = back w32 c.way-lo.type_inv (c.way-lo.ensures ∙ ap (λ (z : ℤ). σ (t / 2) +ℤ z) (corr-is k (t / 2) (t % 2))) in
-    let hi : to_z w32 (of_z w32 c.way-hi.result) ≡ high_way σ β t = back w32 c.way-hi.type_inv (c.way-hi.ensures ∙ ap (λ (z : ℤ). σ (t / 2 + 32) +ℤ z) (corr-is k (t / 2 + 32) (t % 2))) in
+    let lo : to_z w32 (of_z w32 c.way-lo.result) ≡ low_way σ β t = back w32 c.way-lo.type_inv (c.way-lo.ensures ∙ ap (λ (z : ℤ). σ (t / 2) +ℤ z) (corr_is k (t / 2) (t % 2))) in
+    let hi : to_z w32 (of_z w32 c.way-hi.result) ≡ high_way σ β t = back w32 c.way-hi.type_inv (c.way-hi.ensures ∙ ap (λ (z : ℤ). σ (t / 2 + 32) +ℤ z) (corr_is k (t / 2 + 32) (t % 2))) in
     let on : c.less-on.result ≡ takes σ β t = c.less-on.ensures ∙ ap₂ lt_z lo hi in
     let new : to_z w32 (of_z w32 c.pick.result) ≡ acs σ β t = back w32 c.pick.type_inv (c.pick.ensures ∙ (λ i. pick_z (on i) (hi i) (lo i))) in
     record {

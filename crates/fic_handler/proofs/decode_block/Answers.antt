@@ -15,28 +15,28 @@ use Rattle.fic_handler.specs.Code.{BlockDecoded}
 use Rattle.fic_handler.proofs.decode_block.Goals as goal
 
 -- what the decoder and the dispersal leave, put together
-joined-up : (xs : List ℤ) (words bits words' mid new : List ℕ) (r : Decoding) {q : Quality} → length xs ≡ 3096 → 774 ≤ length words → 774 ≤ length bits
+joined_up : (xs : List ℤ) (words bits words' mid new : List ℕ) (r : Decoding) {q : Quality} → length xs ≡ 3096 → 774 ≤ length words → 774 ≤ length bits
     → Decoded zero_end xs words bits (decoded_as r) words' mid → new ≡ disperse (take 768 mid) → q ≡ quality_of (metric_of r) xs → BlockDecoded xs words bits q words' (new ++ drop 768 mid)
 unfolding data_bits
-joined-up xs words bits words' mid new r {q} e hw hb d n k = go (finished r (omega arith) (omega arith) (omega arith) d)
+joined_up xs words bits words' mid new r {q} e hw hb d n k = go (finished r (omega arith) (omega arith) (omega arith) d)
   where
-    steps-are : length xs / 4 ≡ 774
-    steps-are = omega arith
+    steps_are : length xs / 4 ≡ 774
+    steps_are = omega arith
 
     go : Finished zero_end xs words bits r words' mid → BlockDecoded xs words bits q words' (new ++ drop 768 mid)
     go f =
         let l = f.left in
-        let long : length l.decoded ≡ 774 = decoded-length l.decodes ∙ steps-are in
+        let long : length l.decoded ≡ 774 = decoded-length l.decodes ∙ steps_are in
         record {
           block = record { decoded = l.decoded; choices = l.choices; metric = f.metric };
-          decodes = subst (λ (m : ℕ). Decodes zero_end xs m l.decoded f.metric) steps-are l.decodes;
-          chosen = subst (λ (m : ℕ). ChoiceWords xs m l.choices) steps-are l.chosen;
+          decodes = subst (λ (m : ℕ). Decodes zero_end xs m l.decoded f.metric) steps_are l.decodes;
+          chosen = subst (λ (m : ℕ). ChoiceWords xs m l.choices) steps_are l.chosen;
           quality_is = k ∙ ap (λ (z : Decoding). quality_of (metric_of z) xs) f.done_is;
-          words_are = l.words_are ∙ ap (λ (m : ℕ). l.choices ++ drop m words) steps-are;
+          words_are = l.words_are ∙ ap (λ (m : ℕ). l.choices ++ drop m words) steps_are;
           bits_are =
               ap₂ (λ (a b : List ℕ). a ++ b)
               (n ∙ ap disperse (ap (take 768) l.bits_are ∙ take-append-le 768 l.decoded (drop (length xs / 4) bits) (omega arith)))
-              (ap (drop 768) l.bits_are ∙ drop-append-le 768 l.decoded (drop (length xs / 4) bits) (omega arith) ∙ ap (λ (m : ℕ). drop 768 l.decoded ++ drop m bits) steps-are)
+              (ap (drop 768) l.bits_are ∙ drop-append-le 768 l.decoded (drop (length xs / 4) bits) (omega arith) ∙ ap (λ (m : ℕ). drop 768 l.decoded ++ drop m bits) steps_are)
               ∙ sym (append_assoc (disperse (take 768 l.decoded)) (drop 768 l.decoded) (drop 774 bits));
         }
 
@@ -45,5 +45,5 @@ returns c =
     let a = c.args in
     let call = c.viterbi_decode_state0-decoding in
     let dispersed = c.energy_dispersal in
-    joined-up a.depunctured.now a.words.now a.bits.now call.new.words call.new.bits dispersed.new.bits call.result c.requires.0 c.requires.1.0 c.requires.1.1 call.ensures dispersed.ensures
+    joined_up a.depunctured.now a.words.now a.bits.now call.new.words call.new.bits dispersed.new.bits call.result c.requires.0 c.requires.1.0 c.requires.1.1 call.ensures dispersed.ensures
     (c.quality_of.ensures ∙ ap (λ (m : ℤ). quality_of m a.depunctured.now) (back w32 c.metric_of.type_inv c.metric_of.ensures))

@@ -14,8 +14,8 @@ use Rattle.fic_handler.proofs.Fibs.{count-le}
 use Rattle.fic_handler.proofs.Run.{Run, run_none, run_next, behind}
 use Rattle.fic_handler.proofs.process_blocks.Goals as goal
 
-at-most-three : {values : List ℤ} {before after : Buffers} {count : ℕ} {q : Quality} → BlockProcessed values before count q after → count ≤ 3
-at-most-three p = omega (arith, p.count_is, count-le (data_bits p.block.decoded) 3)
+at_most_three : {values : List ℤ} {before after : Buffers} {count : ℕ} {q : Quality} → BlockProcessed values before count q after → count ≤ 3
+at_most_three p = omega (arith, p.count_is, count-le (data_bits p.block.decoded) 3)
 
 -- one block more: the part of the output from byte 32 sum on was given
 next : {xs : List ℤ} {b sum count : ℕ} {before after : Buffers} {passed : List ℕ} {quality : List Quality} {q : Quality} {block : List ℤ} {dep : List ℤ} {ws bs new : List ℕ} → b < 4 → 32 * sum ≤ length after.fibs
@@ -60,7 +60,7 @@ loop-b-init c =
     }
 
 pub overflow_add-sum : goal.overflow_add-sum
-overflow_add-sum c = omega (arith, at-most-three c.process_block-one.ensures, c.loop-b.invariant.run.few)
+overflow_add-sum c = omega (arith, at_most_three c.process_block-one.ensures, c.loop-b.invariant.run.few)
 
 pub loop-b-preserved : goal.loop-b-preserved
 loop-b-preserved c =

@@ -23,15 +23,15 @@ values d read = depuncture (mask (profile_of d)) (take (values_of d) read)
 
 -- they are as many as a frame has, and stand in front of what the call leaves
 module _ (d : Description) (small : d.bitrate < 65536) (none : Accepted d) (read : List ℤ) where
-  values-long : length (values d read) ≡ 96 * d.bitrate + 24
-  values-long = length-depuncture (mask (profile_of d)) (take (values_of d) read) ∙ accepted-length d small none
+  values_long : length (values d read) ≡ 96 * d.bitrate + 24
+  values_long = length-depuncture (mask (profile_of d)) (take (values_of d) read) ∙ accepted-length d small none
 
-  front-is : (rest : List ℤ) {new : List ℤ} → new ≡ values d read ++ rest → take (96 * d.bitrate + 24) new ≡ values d read
-  front-is rest {new} e = ap (take (96 * d.bitrate + 24)) e ∙ take_at (values d read) rest (96 * d.bitrate + 24) values-long
+  front_is : (rest : List ℤ) {new : List ℤ} → new ≡ values d read ++ rest → take (96 * d.bitrate + 24) new ≡ values d read
+  front_is rest {new} e = ap (take (96 * d.bitrate + 24)) e ∙ take_at (values d read) rest (96 * d.bitrate + 24) values_long
 
-  dep-is : (old : List ℤ) {new : List ℤ} → depunctured_length d ≤ length old → new ≡ unless_refused (msc_refusal_of d (length old)) (values d read ++ drop (depunctured_length d) old) old
+  dep_is : (old : List ℤ) {new : List ℤ} → depunctured_length d ≤ length old → new ≡ unless_refused (msc_refusal_of d (length old)) (values d read ++ drop (depunctured_length d) old) old
       → new ≡ values d read ++ drop (depunctured_length d) old
-  dep-is old long e = e ∙ ap (λ (n : ℕ). unless_refused n (values d read ++ drop (depunctured_length d) old) old) (long_enough d (take (values_of d) read) old none long)
+  dep_is old long e = e ∙ ap (λ (n : ℕ). unless_refused n (values d read ++ drop (depunctured_length d) old) old) (long_enough d (take (values_of d) read) old none long)
 
 pub frame_of-requires : goal.frame_of-requires
 frame_of-requires c =
@@ -41,7 +41,7 @@ frame_of-requires c =
     let old = c.args.depunctured.now in
     let small : d.bitrate < 65536 = omega arith in
     record {
-      soft_long = ap length (front-is d small r.none read _ (dep-is d small r.none read old r.soft_long c.depuncture_msc.ensures.places)) ∙ values-long d small r.none read;
+      soft_long = ap length (front_is d small r.none read _ (dep_is d small r.none read old r.soft_long c.depuncture_msc.ensures.places)) ∙ values_long d small r.none read;
       few = few d.bitrate (accepted-rate d small r.none);
       words_long = r.words_long;
       bits_long = r.bits_long;
@@ -55,6 +55,6 @@ returns c =
     let read = c.args.deinterleaved.now in
     let old = c.args.depunctured.now in
     let small : d.bitrate < 65536 = omega arith in
-    let left = dep-is d small r.none read old r.soft_long c.depuncture_msc.ensures.places in
+    let left = dep_is d small r.none read old r.soft_long c.depuncture_msc.ensures.places in
     let f = c.frame_of in
-    (left, subst (λ (xs : List ℤ). Framed (ends_of d.is_eep) d.bitrate xs c.args.words.now c.args.bits.now c.args.frame.now f.result f.new.words f.new.bits f.new.frame) (front-is d small r.none read _ left) f.ensures)
+    (left, subst (λ (xs : List ℤ). Framed (ends_of d.is_eep) d.bitrate xs c.args.words.now c.args.bits.now c.args.frame.now f.result f.new.words f.new.bits f.new.frame) (front_is d small r.none read _ left) f.ensures)

@@ -20,11 +20,11 @@ record Fit (own ring : List ℤ) (x n : ℕ) : Type 0 where
   own_long : length own ≡ n
 
 module _ {own ring₀ : List ℤ} {x n : ℕ} (f : Fit own ring₀ x n) where
-  in-ring : (s i : ℕ) → s < 16 → i < n → s * n + i < length ring₀
-  in-ring s i h l = omega (arith, f.ring_long, slot_end s 16 n i h l)
+  in_ring : (s i : ℕ) → s < 16 → i < n → s * n + i < length ring₀
+  in_ring s i h l = omega (arith, f.ring_long, slot_end s 16 n i h l)
 
-  slot-fits : (i : ℕ) → i ≤ n → x * n + i ≤ length ring₀
-  slot-fits i l =
+  slot_fits : (i : ℕ) → i ≤ n → x * n + i ≤ length ring₀
+  slot_fits i l =
       let h = f.index in
       omega (arith, f.ring_long, suc-mul x n, mul-le-mul_right n h)
 
@@ -32,13 +32,13 @@ module _ {own ring₀ : List ℤ} {x n : ℕ} (f : Fit own ring₀ x n) where
   reads_old : {ring out : List ℤ} {i : ℕ} → i < n → Moved own ring₀ x n ring out i → at ring (slot_of x i * n + i) ≡ in_slot ring₀ n (slot_of x i) i
   reads_old {i = i} l v =
       ap (λ (r : List ℤ). at r (slot_of x i * n + i)) v.ring_is
-      ∙ pasted_else (pos 0) ring₀ (x * n) own i (slot-fits i v.inside) (omega (arith, v.inside, f.own_long)) (slot_of x i * n + i) (apart (slot_of x i) x n i l)
+      ∙ pasted_else (pos 0) ring₀ (x * n) own i (slot_fits i v.inside) (omega (arith, v.inside, f.own_long)) (slot_of x i * n + i) (apart (slot_of x i) x n i l)
 
   again : {ring out : List ℤ} {i : ℕ} {r y : ℤ} → length out ≡ n → i < n → r ≡ at ring (slot_of x i * n + i) → y ≡ at own i → Moved own ring₀ x n ring out i → Moved own ring₀ x n (set ring (x * n + i) y) (set out i r) (i + 1)
   again {ring} {out} {i} {r} {y} same l e w v =
       record {
         inside = omega arith;
-        ring_is = ap (λ (q : List ℤ). set q (x * n + i) y) v.ring_is ∙ pasted_next (pos 0) ring₀ (x * n) own i y (in-ring x i f.index l) (omega (arith, f.own_long)) w;
+        ring_is = ap (λ (q : List ℤ). set q (x * n + i) y) v.ring_is ∙ pasted_next (pos 0) ring₀ (x * n) own i y (in_ring x i f.index l) (omega (arith, f.own_long)) w;
         out_is = filled (pos 0) out i r (λ (k : ℕ). in_slot ring₀ n (slot_of x k) k) (omega arith) v.out_is (e ∙ reads_old l v);
       }
 

@@ -15,9 +15,9 @@ use Rattle.laws.proofs.Pasted.{pasted_next}
 use Rattle.soft_bytes.specs.Soft.{soft_of}
 use Rattle.soft_bytes.proofs.convert.Goals as goal
 
-softOf-zero : soft_of 0 ≡ pos 0
+soft_of_zero : soft_of 0 ≡ pos 0
 unfolding soft_of
-softOf-zero = refl
+soft_of_zero = refl
 
 pub loop-i-preserved : goal.loop-i-preserved
 loop-i-preserved c =
@@ -32,5 +32,5 @@ loop-i-preserved c =
           ap (λ (l : List ℤ). set l i x) c.loop-i.invariant.is
           ∙ ap (λ (k : ℕ). set (paste old 0 (map soft_of bytes) i) k x) (sym (zero-add i))
           ∙ pasted_next (pos 0) old 0 (map soft_of bytes) i x (omega arith) (omega (arith, length-map bytes soft_of))
-          (e ∙ sym (ap (λ (d : ℤ). get_or (map soft_of bytes) i d) (sym softOf-zero) ∙ get_or-map soft_of bytes i 0));
+          (e ∙ sym (ap (λ (d : ℤ). get_or (map soft_of bytes) i d) (sym soft_of_zero) ∙ get_or-map soft_of bytes i 0));
     }
