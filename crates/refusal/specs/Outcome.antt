@@ -1,5 +1,7 @@
 -- Document 01, "The numbers that turn a caller away": an answer is what was asked for, or the number of the first refusal in its order.
-use Rattle.std.specs.Prelude.{Bool, true, false, cond, List, [], ◌∷◌, ℕ, zero, suc}
+use Rattle.std.specs.Prelude.{Bool, true, false, cond, List, [], ◌∷◌, ℕ, zero, suc, Result, Ok, Err}
+use Rattle.refusal.specs.declared.Refusal.{Refusal}
+use Rattle.refusal.specs.declared.Refusal.TheVariants.{NoSuchOption, NoSuchLevel, RateTooLow, NoProfile, SizeDiffers, UnevenRate, BeyondCif, ShortBuffer, ShortSymbol, BadState, LongInput, ShortDirectory}
 
 -- what an answer says
 pub data Outcome {ℓ} (A : Type ℓ) : Type ℓ where
@@ -21,6 +23,26 @@ module _ {ℓ} {A : Type ℓ} where
   abbrev pub number_of : Outcome A → ℕ
   number_of (gives a) = 0
   number_of (refuses n) = n
+
+-- the number of each refusal: 1 to 11 of document 01, 12 of document 02
+abbrev pub numbered : Refusal → ℕ
+numbered NoSuchOption = 1
+numbered NoSuchLevel = 2
+numbered RateTooLow = 3
+numbered NoProfile = 4
+numbered SizeDiffers = 5
+numbered UnevenRate = 6
+numbered BeyondCif = 7
+numbered ShortBuffer = 8
+numbered ShortSymbol = 9
+numbered BadState = 10
+numbered LongInput = 11
+numbered ShortDirectory = 12
+
+-- what an answer of the code says: what was asked for, or the number of its refusal
+abbrev pub told : {A : Type 0} → Result A Refusal → Outcome A
+told (Ok a) = gives a
+told (Err r) = refuses (numbered r)
 
 -- refusal n where its condition holds
 abbrev pub check : ℕ → Bool → ℕ

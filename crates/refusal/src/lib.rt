@@ -1,7 +1,77 @@
-// What every crate answers where it turns a caller away: document 01's number.
+// What every crate answers where it turns a caller away: document 01's refusals, each with its number there.
 #![tactic(auto)]
 
-#[derive(Clone, Copy)]
-pub struct Refusal {
-    pub number: u8,
+ghost use Rattle.std.specs.Prelude.{◌≡◌};
+ghost use Rattle.refusal.specs.Outcome.{number_of, numbered, told};
+
+use std::error::Error;
+use std::fmt;
+
+#[derive(Clone, Copy, Debug, PartialEq, Eq, Hash)]
+pub enum Refusal {
+    NoSuchOption,
+    NoSuchLevel,
+    RateTooLow,
+    NoProfile,
+    SizeDiffers,
+    UnevenRate,
+    BeyondCif,
+    ShortBuffer,
+    ShortSymbol,
+    BadState,
+    LongInput,
+    ShortDirectory,
+}
+
+impl Refusal {
+    // Its number in document 01, and document 02 from 12 on.
+    pub fn number(self) -> u8
+        ensures { result ≡ numbered self }
+    {
+        match self {
+            Refusal::NoSuchOption => 1,
+            Refusal::NoSuchLevel => 2,
+            Refusal::RateTooLow => 3,
+            Refusal::NoProfile => 4,
+            Refusal::SizeDiffers => 5,
+            Refusal::UnevenRate => 6,
+            Refusal::BeyondCif => 7,
+            Refusal::ShortBuffer => 8,
+            Refusal::ShortSymbol => 9,
+            Refusal::BadState => 10,
+            Refusal::LongInput => 11,
+            Refusal::ShortDirectory => 12,
+        }
+    }
+}
+
+impl fmt::Display for Refusal {
+    fn fmt<W: fmt::Write>(&self, f: &mut fmt::Formatter<W>) -> fmt::Result {
+        f.write_str(match self {
+            Refusal::NoSuchOption => "an EEP option above 1",
+            Refusal::NoSuchLevel => "an EEP level above 3",
+            Refusal::RateTooLow => "a bit rate too low for its level",
+            Refusal::NoProfile => "no UEP profile for the bit rate and level",
+            Refusal::SizeDiffers => "a size that the profile does not need",
+            Refusal::UnevenRate => "a bit rate that is no multiple of the level's unit",
+            Refusal::BeyondCif => "a sub-channel that passes the CIF's end",
+            Refusal::ShortBuffer => "a buffer that is too short",
+            Refusal::ShortSymbol => "a symbol that is too short",
+            Refusal::BadState => "a state that set-up and feeding never give",
+            Refusal::LongInput => "an input that is too long",
+            Refusal::ShortDirectory => "a directory with too few places",
+        })
+    }
+}
+
+impl Error for Refusal {}
+
+// The number of an answer as C has it: 0 where nothing is refused.
+pub fn number<T>(answer: &Result<T, Refusal>) -> u8
+    ensures { result ≡ number_of (told answer.now) }
+{
+    match answer {
+        Ok(_) => 0,
+        Err(refusal) => refusal.number(),
+    }
 }
