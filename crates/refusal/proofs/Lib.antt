@@ -1,2 +1,3 @@
 pub mod Checks
 pub mod Laws
+pub mod Told
