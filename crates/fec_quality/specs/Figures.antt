@@ -1,16 +1,14 @@
 -- Document 01, "Quality": metric, sum of absolute depunctured values, and percentage.
-use Rattle.std.specs.Prelude.{false, List, [], ◌∷◌, ℕ, zero, suc, ◌+◌, ◌/◌, ltb, length, ℤ, pos, nat_abs, Float}
+use Rattle.std.specs.Prelude.{false, List, [], ◌∷◌, ℕ, zero, suc, ◌/◌, ltb, length, ℤ, pos, unsigned_abs, Float}
+use Rattle.std.specs.List.{sum_by}
 use Rattle.std.specs.Float.{binary64, fin}
 use Rattle.std.specs.Float.Ieee.{mul, div, of_int}
-use Rattle.refusal.specs.Outcome.{Outcome, gives, refuses, outcome, check, first_of}
+use Rattle.refusal.specs.Outcome.{Outcome, outcome, check, first_of}
 use Rattle.fec_quality.specs.declared.Quality.{Quality}
-use Rattle.fec_quality.specs.declared.Measured.{Measured}
-use Rattle.fec_quality.specs.declared.Measured.TheVariants.{Is, Refused}
 
 -- the sum of the absolute values; -128 has weight 128
-unfoldable pub sum_abs : List ℤ → ℕ
-sum_abs [] = 0
-sum_abs (v ∷ vs) = nat_abs v + sum_abs vs
+abbrev pub sum_abs : List ℤ → ℕ
+sum_abs vs = sum_by unsigned_abs vs
 
 -- metric divided by sum, times 100.0, in f64, each operation rounded once, in that order; 0.0 if the sum is 0
 unfoldable pub percent_of : ℤ → ℕ → Float
@@ -20,11 +18,6 @@ percent_of m (suc n) = mul binary64 (div binary64 (of_int binary64 m) (of_int bi
 -- the record of a metric and the values that it was decoded from
 abbrev pub quality_of : ℤ → List ℤ → Quality
 quality_of m xs = record { metric = m; sum = pos (sum_abs xs); percent = percent_of m (sum_abs xs) }
-
--- what each case of the enum says
-abbrev pub measured_as : Measured → Outcome Quality
-measured_as (Is q) = gives q
-measured_as (Refused r) = refuses r.number
 
 -- the first refusal for some values, 0 for none: 11 above 65,536 whole steps
 unfoldable pub measure_refusal : List ℤ → ℕ
