@@ -1,54 +1,39 @@
--- The rules of the code's tables: one test each, which antt computes over the whole table.
+-- The code's tables are the standard's: antt computes each whole.
 -- Assumes nothing.
-use mathlib.Core.Path.{◌≡◌, sym, ap, ap₂, ◌∙◌}
+use mathlib.Core.Path.{◌≡◌, refl, sym, ap, ap₂, ◌∙◌}
 use mathlib.Core.Bool.{Bool, false, ◌&&◌}
-use mathlib.Core.List.{List}
-use Prim.Native.Nat.{ℕ, ◌+◌, ◌*◌, ◌/◌, ◌%◌, ◌<◌}
-use native.Mathlib.Omega.{arith}
-use lib.Dec.{T, eqb, eqb→eq}
-use lib.ListN.{length, get_or}
-use borrow.Author.Tests.{eq-eqb, ne_eqb}
-use Rattle.laws.specs.Tables.{every}
-use Rattle.laws.specs.Words.{pick_n}
-use Rattle.laws.proofs.Tables.{rule_at}
-use Rattle.spec_en300401.specs.Puncturing.{keeps}
+use mathlib.Core.List.{List, map}
+use Prim.Native.Nat.{ℕ, ◌+◌, ◌<◌}
+use borrow.Author.Tests.{lt-ltb, eq-eqb, ne_eqb}
+use lib.Dec.{eqb}
+use lib.ListN.{get_or}
+use Rattle.std.proofs.lemmas.List.{get_or-map}
+use Rattle.laws.specs.Lists.{list_from, list_of}
+use Rattle.laws.proofs.Lists.{list_of-at}
+use Rattle.spec_en300401.specs.Puncturing.{keeps, rank, vector}
 use Rattle.spec_en300401.specs.Uep.{Row, uep_table, is_for, no_row}
+use Rattle.fec_profiles.specs.declared.TheConstants.{P_CODES, UEP_PROFILES}
 use Rattle.fec_profiles.specs.declared.UepProfile.{UepProfile}
-use Rattle.fec_profiles.specs.Code.{IsTable, numbers}
-use Rattle.fec_profiles.specs.Rows.{profile_row}
+use Rattle.fec_profiles.specs.Rows.{bits, vector_at, index, sections_of, profile_row}
 
--- number k of the profiles is a number of row k / 10
-unfoldable pub right_number : ℕ → ℕ → Bool
-right_number k x = eqb x (get_or (numbers (get_or uep_table (k / 10) no_row)) (k % 10) 0)
+-- the 24 vectors
+pub vectors : P_CODES ≡ list_of 24 (λ (k : ℕ). bits (vector (k + 1)))
+unfolding list_from vector keeps rank
+vectors = refl
 
-pub is-table : (xs : List ℕ) → T (every right_number 0 xs) → length xs ≡ 640 → IsTable xs
-unfolding right_number
-is-table xs t e = record { number = λ k h. eqb→eq (get_or xs k 0) _ (rule_at right_number 0 xs t k (omega arith)) }
+pub vector_is : (d : List ℕ) (pi : ℕ) → pi < 24 → get_or P_CODES pi d ≡ bits (vector_at pi)
+unfolding vector_at
+vector_is d pi h =
+    rw (lt-ltb pi 24 h) (ap (λ (xs : List (List ℕ)). get_or xs pi d) vectors ∙ list_of-at 24 (λ (k : ℕ). bits (vector (k + 1))) d pi h)
 
--- column c of row k
-pub column : (xs : List ℕ) → IsTable xs → (k c : ℕ) → k < 64 → c < 10 → get_or xs (10 * k + c) 0 ≡ get_or (numbers (get_or uep_table k no_row)) c 0
-column xs t k c hk hc =
-    let q : (10 * k + c) / 10 ≡ k = omega arith in
-    let m : (10 * k + c) % 10 ≡ c = omega arith in
-    t.number (10 * k + c) (omega arith) ∙ (λ i. get_or (numbers (get_or uep_table (q i) no_row)) (m i) 0)
+-- the 64 rows
+pub rows : UEP_PROFILES ≡ map profile_row uep_table
+unfolding profile_row sections_of index uep_table
+rows = refl
 
--- place k of the vectors is place k % 32 of PI k / 32 + 1
-unfoldable pub right_place : ℕ → ℕ → Bool
-right_place k x = eqb x (pick_n (keeps (k / 32 + 1) (k % 32)) 1 0)
-
--- a list that holds the 24 vectors, 32 places for each
-pub record IsCodes (xs : List ℕ) : Type 0 where
-  pub place : (pi j : ℕ) → pi < 24 → j < 32 → get_or xs (32 * pi + j) 0 ≡ pick_n (keeps (pi + 1) j) 1 0
-
-pub is_codes : (xs : List ℕ) → T (every right_place 0 xs) → length xs ≡ 768 → IsCodes xs
-unfolding right_place
-is_codes xs t e = record { place = go }
-  where
-    go : (pi j : ℕ) → pi < 24 → j < 32 → get_or xs (32 * pi + j) 0 ≡ pick_n (keeps (pi + 1) j) 1 0
-    go pi j hp hj =
-        let q : (32 * pi + j) / 32 ≡ pi = omega arith in
-        let m : (32 * pi + j) % 32 ≡ j = omega arith in
-        eqb→eq (get_or xs (32 * pi + j) 0) _ (rule_at right_place 0 xs t (32 * pi + j) (omega arith)) ∙ (λ i. pick_n (keeps (q i + 1) (m i)) 1 0)
+pub row_is : (d : UepProfile) (k : ℕ) → k < 64 → get_or UEP_PROFILES k d ≡ profile_row (get_or uep_table k no_row)
+unfolding uep_table
+row_is d k h = ap (λ (xs : List UepProfile). get_or xs k d) rows ∙ get_or-map profile_row uep_table k no_row d h
 
 -- the scan's two tests of a row, as the code makes them
 module _ (k l : ℕ) (p : Row) (r : UepProfile) (e : r ≡ profile_row p) where

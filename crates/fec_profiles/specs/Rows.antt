@@ -1,13 +1,11 @@
 -- Document 01, "eep.rs" and "uep.rs": the standard's tables with `pi` counted from 0.
-use Rattle.std.specs.Prelude.{Bool, true, false, cond, List, [], ◌∷◌, map, ℕ, ◌+◌, ◌-◌, eqb, ltb, get_or, replicate}
-use Rattle.std.proofs.Math.Option.{Option, none, some}
+use Rattle.std.specs.Prelude.{Bool, false, cond, List, [], ◌∷◌, map, ℕ, ◌+◌, ◌-◌, eqb, ltb, get_or, replicate, Option, Some, None}
+use Rattle.std.proofs.Math.Option.{«Option» as Perhaps, none, some}
 use Rattle.laws.specs.Words.{pick_n}
 use Rattle.spec_en300401.specs.Puncturing.{Region, no_region, vector}
-use Rattle.spec_en300401.specs.Uep.{Row, no_row, uep_row}
-use Rattle.refusal.specs.Outcome.{Outcome, gives, refuses, outcome, check, first_of}
+use Rattle.spec_en300401.specs.Uep.{Row}
+use Rattle.fec_profiles.specs.declared.Section.{Section}
 use Rattle.fec_profiles.specs.declared.UepProfile.{UepProfile}
-use Rattle.fec_profiles.specs.declared.Found.{Found}
-use Rattle.fec_profiles.specs.declared.Found.TheVariants.{«Row» as RowFound, Nothing}
 
 -- flags as the code holds them, 1 and 0
 abbrev pub bits : List Bool → List ℕ
@@ -25,40 +23,19 @@ index r = pick_n (eqb r.blocks 0) 24 (r.pi - 1)
 abbrev pub region_at : List Region → ℕ → Region
 region_at rs i = get_or rs i no_region
 
+-- a region as the code holds it
+abbrev pub section_of : Region → Section
+section_of r = record { blocks = r.blocks; pi = index r }
+
+-- four regions
+unfoldable pub sections_of : List Region → List Section
+sections_of rs = map (λ i. section_of (region_at rs i)) (0 ∷ 1 ∷ 2 ∷ 3 ∷ [])
+
 -- a row of the standard's table as the code holds it
 unfoldable pub profile_row : Row → UepProfile
-profile_row p =
-    record {
-      bitrate = p.rate;
-      level = p.level;
-      l1 = (region_at p.regions 0).blocks;
-      l2 = (region_at p.regions 1).blocks;
-      l3 = (region_at p.regions 2).blocks;
-      l4 = (region_at p.regions 3).blocks;
-      pi1 = index (region_at p.regions 0);
-      pi2 = index (region_at p.regions 1);
-      pi3 = index (region_at p.regions 2);
-      pi4 = index (region_at p.regions 3);
-    }
+profile_row p = record { bitrate = p.rate; level = p.level; sections = sections_of p.regions }
 
--- what each case of the enum says: a row, or document 01's number for a bit rate and level that have none
-abbrev pub found_as : Found → Outcome UepProfile
-found_as (RowFound p) = gives p
-found_as Nothing = refuses 4
-
-abbrev pub is_none : Option Row → Bool
-is_none none = true
-is_none (some p) = false
-
--- the first refusal of a lookup, 0 for none: 4 where the table has no row
-unfoldable pub uep_refusal : ℕ → ℕ → ℕ
-uep_refusal rate level = first_of (check 4 (is_none (uep_row rate level)) ∷ [])
-
--- a row that was found; of none, no row
-abbrev pub row_in : Option Row → Row
-row_in none = no_row
-row_in (some p) = p
-
--- the answer to a bit rate and level
-abbrev pub uep_found : ℕ → ℕ → Outcome UepProfile
-uep_found rate level = outcome (uep_refusal rate level) (profile_row (row_in (uep_row rate level)))
+-- the row for a bit rate and level, where the table has one
+abbrev pub found : Perhaps Row → Option UepProfile
+found none = None
+found (some p) = Some (profile_row p)
