@@ -2,13 +2,14 @@
 -- Assumes nothing.
 use mathlib.Core.Path.{◌≡◌, refl, sym, ap, ◌∙◌}
 use mathlib.Core.List.{[], ◌∷◌}
-use Prim.Native.Nat.{ℕ}
+use Prim.Native.Nat.{ℕ, zero, suc}
 use native.Mathlib.Omega.{arith}
 use lib.ListN.{get_or}
 use Rattle.std.specs.Prelude.{Result, Ok, Err}
 use Rattle.refusal.specs.declared.Refusal.{Refusal}
 use Rattle.refusal.specs.declared.Refusal.TheVariants.{NoSuchOption, NoSuchLevel, RateTooLow, NoProfile, SizeDiffers, UnevenRate, BeyondCif, ShortBuffer, ShortSymbol, BadState, LongInput, ShortDirectory}
-use Rattle.refusal.specs.Outcome.{numbered, told}
+use Rattle.refusal.specs.Outcome.{refuses, outcome, numbered, told}
+use Rattle.refusal.proofs.Laws.{given_number, given_value, refused-number}
 
 -- the refusal of a number
 abbrev named : ℕ → Refusal
@@ -37,3 +38,23 @@ told_one (Ok a) (Ok b) e = let x : a ≡ b = cc in ap Ok x
 told_one (Ok a) (Err y) e = let z : ◌≡◌ {A = ℕ} 0 1 = cc in absurd (omega arith)
 told_one (Err x) (Ok b) e = let z : ◌≡◌ {A = ℕ} 0 1 = cc in absurd (omega arith)
 told_one (Err x) (Err y) e = let z : numbered x ≡ numbered y = cc in ap Err (numbered_one x y z)
+
+module _ {A : Type 0} where
+  -- what a promise says of an answer that is known
+  pub ok-number : (n : ℕ) (a : A) {r : Result A Refusal} {b : A} → told r ≡ outcome n a → r ≡ Ok b → n ≡ 0
+  ok-number n a {r} {b} e q = given_number n a b (sym (ap told q) ∙ e)
+
+  pub ok-value : (n : ℕ) (a : A) {r : Result A Refusal} {b : A} → told r ≡ outcome n a → r ≡ Ok b → b ≡ a
+  ok-value n a {r} {b} e q = given_value n a b (sym (ap told q) ∙ e)
+
+  pub err-number : (n : ℕ) (a : A) {r : Result A Refusal} {x : Refusal} → told r ≡ outcome n a → r ≡ Err x → n ≡ numbered x
+  err-number n a {r} {x} e q = refused-number n a (numbered x) (sym (ap told q) ∙ e)
+
+  -- the answer where nothing refuses
+  pub is-ok : (r : Result A Refusal) (n : ℕ) (a : A) → told r ≡ outcome n a → n ≡ 0 → r ≡ Ok a
+  is-ok r n a e z = told_one r (Ok a) (e ∙ ap (λ (m : ℕ). outcome m a) z)
+
+  -- a refusal passes on, whatever else would have been given
+  pub passed_on : {B : Type 0} (n : ℕ) (a : A) (b : B) (x : Refusal) → refuses (numbered x) ≡ outcome n a → refuses (numbered x) ≡ outcome n b
+  passed_on zero a b x e = let z : ◌≡◌ {A = ℕ} 0 1 = cc in absurd (omega arith)
+  passed_on (suc n) a b x e = let q : numbered x ≡ suc n = cc in ap refuses q
