@@ -4,11 +4,17 @@ use mathlib.Core.Path.{◌≡◌, refl, sym, ap, ◌∙◌, subst}
 use mathlib.Core.List.{List, [], ◌∷◌, ◌++◌, map, map-append}
 use Prim.Native.Nat.{ℕ, zero, suc, ◌+◌, ◌*◌, ◌/◌, ◌^◌, ◌<◌, ◌≤◌}
 use native.Mathlib.Omega.{arith}
-use lib.ListN.{length, get_or, take, drop, length-take, length-map, get_or-map}
+use lib.ListN.{length, get_or, take, drop, length-map, get_or-map}
+use lib.Dec.{eqb}
+use lib.Seq.{drop-drop}
 use lib.Pow.{pow_mono}
+use mathlib.Core.Bool.{Bool, not}
+use borrow.Author.Tests.{ne_eqb}
+use Rattle.std.specs.Simd.{first_chunks}
+use mir.Val.{bool_byte}
 use Rattle.laws.specs.Bits.{num_of, AreBits}
 use Rattle.laws.proofs.Bits.{num_snoc, num_lt, below-head, below_tail}
-use Rattle.laws.proofs.Slices.{Folded}
+use Rattle.laws.proofs.Slices.{take_more}
 use Rattle.spec_en300401.specs.Bytes.{bytes_of_bits}
 use Rattle.spec_en300401.proofs.Bytes.{bytes-length, byte_at}
 use Rattle.fec_packing.specs.Bytes.{as_bit, bytes_of}
@@ -41,12 +47,21 @@ number xs = num_of (map as_bit xs)
 pub number-snoc : (xs : List ℕ) (v : ℕ) → number (xs ++ (v ∷ [])) ≡ 2 * number xs + as_bit v
 number-snoc xs v = ap num_of (map-append as_bit xs (v ∷ [])) ∙ num_snoc (map as_bit xs) (as_bit v)
 
--- fewer than eight values passed
-pub number_small : {bits : List ℕ} {i byte : ℕ} → i < 8 → Folded 0 number bits i byte → byte < 2 ^ 7
-number_small {bits} {i} {byte} l v =
-    let a = num_lt (map as_bit (take i bits)) (bits_mapped (take i bits)) in
-    let b : 2 ^ length (map as_bit (take i bits)) ≤ 2 ^ 7 = pow_mono {j = 7} (omega (arith, length-map (take i bits) as_bit, length-take i bits)) in
-    omega (arith, v.is)
+pub number_more : (xs : List ℕ) (i : ℕ) → i < length xs → number (take (i + 1) xs) ≡ 2 * number (take i xs) + as_bit (get_or xs i 0)
+number_more xs i h = ap number (take_more 0 xs i h) ∙ number-snoc (take i xs) (get_or xs i 0)
+
+-- fewer than eight values
+pub number_small : (xs : List ℕ) → length xs < 8 → number xs < 2 ^ 7
+number_small xs h =
+    let a = num_lt (map as_bit xs) (bits_mapped xs) in
+    let b : 2 ^ length (map as_bit xs) ≤ 2 ^ 7 = pow_mono {j = 7} (omega (arith, length-map xs as_bit)) in
+    omega arith
+
+-- a value's bit as the code has it
+pub flag_is : (v : ℕ) → bool_byte (not (eqb v 0)) ≡ as_bit v
+unfolding as_bit
+flag_is zero = refl
+flag_is (suc v) = ap (λ (t : Bool). bool_byte (not t)) (ne_eqb (suc v) 0 (λ e. omega (arith, e)))
 
 take-map : (n : ℕ) (xs : List ℕ) → take n (map as_bit xs) ≡ map as_bit (take n xs)
 take-map zero xs = refl
@@ -66,3 +81,12 @@ pub bytes_of-at : (xs : List ℕ) (n : ℕ) → n < length xs / 8 → get_or (by
 unfolding bytes_of
 bytes_of-at xs n h =
     byte_at (map as_bit xs) n (subst (λ (m : ℕ). n < m / 8) (sym (length-map xs as_bit)) h) ∙ ap (λ (ys : List ℕ). num_of (take 8 ys)) (drop-map (8 * n) xs) ∙ ap num_of (take-map 8 (drop (8 * n) xs))
+
+-- eight values at a time: piece j
+pub eight_at : (k : ℕ) (xs : List ℕ) (j : ℕ) → j < k → get_or (first_chunks 8 k xs) j [] ≡ take 8 (drop (8 * j) xs)
+eight_at zero xs j h = absurd (omega arith)
+eight_at (suc k) xs zero h = refl
+eight_at (suc k) xs (suc j) h = eight_at k (drop 8 xs) j (omega arith) ∙ ap (take 8) (drop-drop (8 * j) 8 xs) ∙ ap (λ (m : ℕ). take 8 (drop m xs)) (next j)
+  where
+    next : (j : ℕ) → 8 + 8 * j ≡ 8 * suc j
+    next j = omega arith

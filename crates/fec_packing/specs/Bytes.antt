@@ -1,9 +1,8 @@
 -- Document 01, "high bit first": decoded bits as bytes.
-use Rattle.std.specs.Prelude.{◌≡◌, List, [], ◌∷◌, map, ◌++◌, ℕ, zero, suc, ◌/◌, ltb, length, drop}
+use Rattle.std.specs.Prelude.{◌≡◌, List, [], ◌∷◌, map, ◌++◌, ℕ, zero, suc, ◌/◌, ltb, length, drop, Result}
 use Rattle.spec_en300401.specs.Bytes.{bytes_of_bits}
-use Rattle.refusal.specs.Outcome.{Outcome, gives, refuses, outcome, unless_refused, check, first_of}
-use Rattle.fec_packing.specs.declared.Packing.{Packing}
-use Rattle.fec_packing.specs.declared.Packing.TheVariants.{Packed, Refused}
+use Rattle.refusal.specs.Outcome.{told, outcome, unless_refused, check, first_of}
+use Rattle.refusal.specs.declared.Refusal.{Refusal}
 
 -- a value as a bit: 0 is 0, any other value 1
 unfoldable pub as_bit : ℕ → ℕ
@@ -14,11 +13,6 @@ as_bit (suc n) = 1
 unfoldable pub bytes_of : List ℕ → List ℕ
 bytes_of xs = bytes_of_bits (map as_bit xs)
 
--- what each case of the enum says: how many bytes, or document 01's number
-abbrev pub packed_as : Packing → Outcome ℕ
-packed_as (Packed n) = gives n
-packed_as (Refused r) = refuses r.number
-
 -- the first refusal of a call, 0 for none: 8 where the output has fewer places than bytes
 unfoldable pub pack_refusal : List ℕ → List ℕ → ℕ
 pack_refusal xs out = first_of (check 8 (ltb (length out) (length xs / 8)) ∷ [])
@@ -28,6 +22,6 @@ abbrev pub packed : List ℕ → List ℕ → List ℕ
 packed xs out = unless_refused (pack_refusal xs out) (bytes_of xs ++ drop (length xs / 8) out) out
 
 -- the promise of `pack`
-pub record Packs (xs out : List ℕ) (r : Packing) (out' : List ℕ) : Type 0 where
-  pub answer : packed_as r ≡ outcome (pack_refusal xs out) (length xs / 8)
+pub record Packs (xs out : List ℕ) (r : Result ℕ Refusal) (out' : List ℕ) : Type 0 where
+  pub answer : told r ≡ outcome (pack_refusal xs out) (length xs / 8)
   pub bytes : out' ≡ packed xs out

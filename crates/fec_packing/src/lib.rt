@@ -1,60 +1,34 @@
 // Decoded bits to bytes, the high bit first (fic/handler.rs and msc/mod.rs, each in its own loop there).
 #![tactic(auto)]
 
-ghost use Rattle.std.specs.Prelude.{◌≡◌, map, ◌+◌, ◌*◌, ◌/◌, ◌<◌, length};
+ghost use Rattle.std.specs.Prelude.{◌≡◌, map};
 ghost use Rattle.laws.specs.Bits.{num_of};
-ghost use Rattle.fec_packing.specs.Bytes.{as_bit, bytes_of, Packs};
+ghost use Rattle.fec_packing.specs.Bytes.{as_bit, Packs};
 
 use refusal::Refusal;
 
-#[derive(Clone, Copy)]
-pub enum Packing {
-    Packed(usize),
-    Refused(Refusal),
-}
-
-fn as_bit(value: u8) -> u8
-    ensures { result ≡ as_bit value }
-{
-    if value == 0 { 0 } else { 1 }
-}
-
 // The byte of eight values.
-fn byte_of(bits: &[u8]) -> u8
-    requires { length bits.now ≡ 8 }
-    ensures { result ≡ num_of (map as_bit bits.now) }
+fn byte_of(eight: &[u8; 8]) -> u8
+    ensures { result ≡ num_of (map as_bit eight.now) }
 {
-    let mut byte: u8 = 0;
-    let mut i: usize = 0;
-    while i < bits.len() {
-        byte = byte * 2 + as_bit(bits[i]);
-        i += 1;
+    let mut byte = 0;
+    for bit in eight {
+        byte = byte * 2 + u8::from(*bit != 0);
     }
     byte
 }
 
-// As many bytes as there are places.
-fn fill(bits: &[u8], bytes: &mut [u8])
-    requires { length bytes.old ≡ length bits.now / 8 }
-    ensures { bytes.new ≡ bytes_of bits.now }
-{
-    let mut j: usize = 0;
-    while j < bytes.len() {
-        let from = 8 * j;
-        let to = from + 8;
-        bytes[j] = byte_of(&bits[from..to]);
-        j += 1;
-    }
-}
-
-// Packs the bits into the start of the bytes: how many bytes, or refusal 8 where they do not fit.
-pub fn pack(bits: &[u8], bytes: &mut [u8]) -> Packing
+// Packs the bits into the start of the bytes: how many bytes, or a refusal where they do not fit.
+#[tactic(auto, unfolding(crate::specs::Bytes::pack_refusal))]
+pub fn pack(bits: &[u8], bytes: &mut [u8]) -> Result<usize, Refusal>
     ensures { Packs bits.now bytes.old result bytes.new }
 {
-    let n = bits.len() / 8;
-    if bytes.len() < n {
-        return Packing::Refused(Refusal { number: 8 });
+    let (eights, _) = bits.as_chunks::<8>();
+    if bytes.len() < eights.len() {
+        return Err(Refusal::ShortBuffer);
     }
-    fill(bits, &mut bytes[0..n]);
-    Packing::Packed(n)
+    for (j, eight) in eights.iter().enumerate() {
+        bytes[j] = byte_of(eight);
+    }
+    Ok(eights.len())
 }

@@ -1,27 +1,27 @@
 -- `fec_packing::byte_of` meets its contract: the byte is the number of the values passed.
 -- Assumes nothing.
-use mathlib.Core.Path.{refl}
-use Prim.Native.Nat.{ℕ, ◌+◌, ◌*◌}
+use mathlib.Core.Path.{refl, ◌∙◌}
 use native.Mathlib.Omega.{arith}
-use lib.ListN.{get_or}
+use lib.ListN.{length-take, take, get_or}
 use Rattle.laws.specs.Bits.{num_of}
-use Rattle.laws.proofs.Slices.{folded_next, folded_all}
-use Rattle.fec_packing.specs.Bytes.{as_bit}
-use Rattle.fec_packing.proofs.Bits.{number-snoc, number_small, as_bit-lt}
+use Rattle.fec_packing.proofs.Bits.{number_more, number_small, as_bit-lt, flag_is}
 use Rattle.fec_packing.proofs.byte_of.Goals as goal
 
-pub loop-i-init : goal.loop-i-init
+pub loop-bit-init : goal.loop-bit-init
 unfolding num_of
-loop-i-init c = record { inside = omega arith; is = refl }
+loop-bit-init c = refl
 
 pub overflow_mul-byte : goal.overflow_mul-byte
-overflow_mul-byte c = omega (arith, number_small (omega arith) c.loop-i.invariant)
+overflow_mul-byte c = omega (arith, number_small (take c.loop-bit.bit-index c.args.eight.now) (omega (arith, length-take c.loop-bit.bit-index c.args.eight.now)))
 
 pub overflow_add-byte : goal.overflow_add-byte
-overflow_add-byte c = omega (arith, number_small (omega arith) c.loop-i.invariant, c.as_bit.ensures, as_bit-lt (get_or c.args.bits.now c.loop-i.i 0))
+overflow_add-byte c =
+    let xs = c.args.eight.now in
+    let i = c.loop-bit.bit-index in
+    omega (arith, number_small (take i xs) (omega (arith, length-take i xs)), c.from.ensures ∙ flag_is (get_or xs i 0), as_bit-lt (get_or xs i 0))
 
-pub loop-i-preserved : goal.loop-i-preserved
-loop-i-preserved c = folded_next 0 (λ (n v : ℕ). 2 * n + as_bit v) number-snoc (omega arith) (omega (arith, c.as_bit.ensures)) c.loop-i.invariant
-
-pub returns : goal.returns
-returns c = folded_all 0 (omega arith) c.loop-i.invariant
+pub loop-bit-preserved : goal.loop-bit-preserved
+loop-bit-preserved c =
+    let xs = c.args.eight.now in
+    let i = c.loop-bit.bit-index in
+    omega (arith, number_more xs i (omega arith), c.from.ensures ∙ flag_is (get_or xs i 0))
