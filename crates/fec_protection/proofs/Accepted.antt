@@ -16,12 +16,13 @@ use Rattle.spec_en300401.specs.Puncturing.{mask, kept_size}
 use Rattle.spec_en300401.specs.Uep.{Row, uep_row, regions_of, uep_profile}
 use Rattle.spec_en300401.proofs.Puncturing.{Firsts, no_more, group, firsts-mask, Usable, blocks_in, length-mask}
 use Rattle.spec_en300401.proofs.Uep.{uep-length}
-use Rattle.refusal.specs.Outcome.{gives, refuses, outcome, unless_refused, check, first_of}
+use Rattle.std.specs.Prelude.{Result, Ok}
+use Rattle.refusal.specs.declared.Refusal.{Refusal}
+use Rattle.refusal.specs.Outcome.{gives, refuses, outcome, check, first_of, told}
 use Rattle.refusal.proofs.Laws.{given_number}
+use Rattle.refusal.proofs.Told.{is-ok}
 use Rattle.fec_protection.specs.declared.Description.{Description}
-use Rattle.fec_protection.specs.declared.Judged.{Judged}
-use Rattle.fec_protection.specs.declared.Lookup.{Lookup}
-use Rattle.fec_protection.specs.Answers.{judged_as}
+use Rattle.fec_protection.specs.declared.ProtectionParams.{ProtectionParams}
 use Rattle.fec_protection.specs.Params.{params_of}
 use Rattle.fec_protection.specs.Promises.{JudgePromise, RowPromise}
 use Rattle.fec_protection.specs.Refusals.{is_none, profile_of, eep_row, uep_none, row_refusals, row_refusal_of, refusal_of, judgement, Accepted, RefusedBy, is_refused, depunctured_length}
@@ -41,15 +42,15 @@ module _ (d : Description) where
   pub given : Accepted d → judgement d ≡ gives tt
   given ok = ap (λ (n : ℕ). outcome n tt) ok
 
-  pub accepted-from : {j : Judged} → JudgePromise d j → judged_as j ≡ gives tt → Accepted d
+  pub accepted-from : {j : Result (Unit {0}) Refusal} → JudgePromise d j → told j ≡ gives tt → Accepted d
   accepted-from p e = given_number (refusal_of d) tt tt (sym e ∙ p.answer)
 
-  pub refused-from : {j : Judged} {n : ℕ} → JudgePromise d j → judged_as j ≡ refuses n → RefusedBy n d
+  pub refused-from : {j : Result (Unit {0}) Refusal} {n : ℕ} → JudgePromise d j → told j ≡ refuses n → RefusedBy n d
   refused-from p e = sym p.answer ∙ e
 
   -- then its row is given
-  pub accepted_params : Accepted d → {r : Lookup} → RowPromise (row_refusal_of d) (profile_of d) r → r.params ≡ params_of (profile_of d)
-  accepted_params ok p = p.row ∙ ap (λ (n : ℕ). params_of (unless_refused n (profile_of d) [])) (row_of-accepted d ok)
+  pub accepted_params : Accepted d → {r : Result ProtectionParams Refusal} → RowPromise (row_refusal_of d) (profile_of d) r → r ≡ Ok (params_of (profile_of d))
+  accepted_params ok {r} p = is-ok r (row_refusal_of d) (params_of (profile_of d)) p.answer (row_of-accepted d ok)
 
 -- ---- its place and size
 

@@ -8,13 +8,14 @@ use native.Mathlib.Omega.{arith}
 use native.Mathlib.Nat.{zero-mul}
 use borrow.Author.Tests.{ne_eqb}
 use lib.Dec.{eqb}
-use lib.ListN.{length, get_or}
+use lib.ListN.{length}
 use Rattle.laws.specs.Words.{pick_n}
 use Rattle.laws.proofs.Lists.{copies-zero}
 use Rattle.spec_en300401.specs.Puncturing.{Region, region_mask, mask, kept_size, vector}
 use Rattle.spec_en300401.proofs.Puncturing.{OkRegion, Usable, blocks_in, sent_in, in_table, length-mask, kept-size}
-use Rattle.fec_profiles.specs.Rows.{index, region_at}
-use Rattle.fec_protection.specs.Code.{Bounded, blocks_by, sent_of, sent_by, regions_in}
+use Rattle.fec_profiles.specs.declared.Section.{Section}
+use Rattle.fec_profiles.specs.Rows.{index, region_at, section_of, sections_of}
+use Rattle.fec_protection.specs.Code.{Bounded, blocks_by, no_section, section_in, sent_of, sent_by, region, regions_in}
 use Rattle.fec_protection.specs.Params.{params_of}
 
 -- one region: its pi is at most 24, is one of the 24 where there are blocks, sends as many, and has the same mask
@@ -37,24 +38,26 @@ module _ (r : Region) (ok : OkRegion r) where
   pub index-lt : 0 < r.blocks → index r < 24
   index-lt h = omega (arith, index_of h, ok.top)
 
-  pub sent_same : 4 * (r.blocks * (8 + r.pi)) ≡ sent_of r.blocks (index r)
+  pub sent_same : 4 * (r.blocks * (8 + r.pi)) ≡ sent_of (section_of r)
   sent_same =
-      empty_or (λ (q : Region) (i : ℕ). 4 * (q.blocks * (8 + q.pi)) ≡ sent_of q.blocks i) (λ p. ap (λ (m : ℕ). 4 * m) (zero-mul (8 + p)))
+      empty_or (λ (q : Region) (i : ℕ). 4 * (q.blocks * (8 + q.pi)) ≡ sent_of (record { blocks = q.blocks; pi = i })) (λ p. ap (λ (m : ℕ). 4 * m) (zero-mul (8 + p)))
       (λ h. ap (λ (m : ℕ). 4 * (r.blocks * m)) (omega (arith, index_of h)))
 
-  pub mask_same : region_mask (record { blocks = r.blocks; pi = index r + 1 }) ≡ region_mask r
+  pub mask_same : region_mask (region (section_of r)) ≡ region_mask r
   unfolding region_mask
   mask_same =
       empty_or (λ (q : Region) (i : ℕ). region_mask (record { blocks = q.blocks; pi = i + 1 }) ≡ region_mask q) (λ p. copies-zero (vector 25) ∙ sym (copies-zero (vector p)))
       (λ h. ap (λ (m : ℕ). region_mask (record { blocks = r.blocks; pi = m })) (index_of h))
 
--- a list of four numbers, by each
-four : (P : ℕ → Type 0) → P 0 → (a b c d : ℕ) → P a → P b → P c → P d → (i : ℕ) → P (get_or (a ∷ b ∷ c ∷ d ∷ []) i 0)
-four P z a b c d pa pb pc pd zero = pa
-four P z a b c d pa pb pc pd (suc zero) = pb
-four P z a b c d pa pb pc pd (suc (suc zero)) = pc
-four P z a b c d pa pb pc pd (suc (suc (suc zero))) = pd
-four P z a b c d pa pb pc pd (suc (suc (suc (suc i)))) = z
+-- what holds of the sections of four regions, by each
+module _ (rs : List Region) (P : Section → Type 0) (each : (r : Region) → OkRegion r → P (section_of r)) (z : P no_section) where
+  four : ((i : ℕ) → OkRegion (region_at rs i)) → (i : ℕ) → P (section_in (params_of rs) i)
+  unfolding sections_of
+  four ok zero = each (region_at rs 0) (ok 0)
+  four ok (suc zero) = each (region_at rs 1) (ok 1)
+  four ok (suc (suc zero)) = each (region_at rs 2) (ok 2)
+  four ok (suc (suc (suc zero))) = each (region_at rs 3) (ok 3)
+  four ok (suc (suc (suc (suc i)))) = z
 
 -- up to four regions and no more: those at the four places
 blocks-four : (rs : List Region) → length rs ≤ 4 → blocks_in rs ≡ (region_at rs 0).blocks + (region_at rs 1).blocks + (region_at rs 2).blocks + (region_at rs 3).blocks
@@ -89,31 +92,25 @@ mask-four (a ∷ b ∷ c ∷ d ∷ e ∷ rs) h = absurd (omega arith)
 
 module _ (rs : List Region) (u : Usable rs) where
   pub params_bounded : Bounded (params_of rs)
-  unfolding params_of
   params_bounded =
       record {
-        blocks = four (λ (n : ℕ). n < 65536) (omega arith) _ _ _ _ (u.each 0).short (u.each 1).short (u.each 2).short (u.each 3).short;
-        pi = four (λ (n : ℕ). n ≤ 24) (omega arith) _ _ _ _ (index-le _ (u.each 0)) (index-le _ (u.each 1)) (index-le _ (u.each 2)) (index-le _ (u.each 3));
+        blocks = four rs (λ (s : Section). s.blocks < 65536) (λ r ok. ok.short) (omega arith) u.each;
+        pi = four rs (λ (s : Section). s.pi ≤ 24) index-le (omega arith) u.each;
       }
 
   pub kept_by : sent_by (params_of rs) + 12 ≡ kept_size rs
-  unfolding params_of sent_at
+  unfolding sections_of sent_at
   kept_by =
       omega
       (arith, kept-size (in_table rs u.each), sent-four rs u.few, sent_same _ (u.each 0), sent_same _ (u.each 1), sent_same _ (u.each 2), sent_same _ (u.each 3))
 
   pub mother_by : 128 * blocks_by (params_of rs) + 24 ≡ length (mask rs)
-  unfolding params_of
+  unfolding sections_of
   mother_by = omega (arith, length-mask rs, blocks-four rs u.few)
 
   pub mask_by : mask (regions_in (params_of rs)) ≡ mask rs
-  unfolding params_of mask
+  unfolding sections_of mask
   mask_by = rw (mask_same _ (u.each 0), mask_same _ (u.each 1), mask_same _ (u.each 2), mask_same _ (u.each 3)) (mask-four rs u.few)
 
-  pub params_vectors : (i : ℕ) → 0 < get_or (params_of rs).blocks i 0 → get_or (params_of rs).pi i 0 < 24
-  unfolding params_of
-  params_vectors zero l = index-lt _ (u.each 0) l
-  params_vectors (suc zero) l = index-lt _ (u.each 1) l
-  params_vectors (suc (suc zero)) l = index-lt _ (u.each 2) l
-  params_vectors (suc (suc (suc zero))) l = index-lt _ (u.each 3) l
-  params_vectors (suc (suc (suc (suc i)))) l = absurd (omega arith)
+  pub params_vectors : (i : ℕ) → 0 < (section_in (params_of rs) i).blocks → (section_in (params_of rs) i).pi < 24
+  params_vectors = four rs (λ (s : Section). 0 < s.blocks → s.pi < 24) index-lt (λ h. absurd (omega arith)) u.each

@@ -1,26 +1,27 @@
 -- The rows of the two kinds: which refusal is first, and what the code holds of a profile.
 -- Assumes nothing.
 use mathlib.Core.Path.{◌≡◌, refl, sym, ap, ap₂, ◌∙◌}
-use mathlib.Core.Bool.{false}
+use mathlib.Core.Bool.{Bool, true, false, true≢false}
 use mathlib.Core.List.{List, [], ◌∷◌}
 use mathlib.Core.Option.{Option, none, some}
 use Prim.Native.Nat.{ℕ, zero, suc, ◌+◌, ◌*◌, ◌-◌, ◌/◌, ◌<◌, ◌≤◌}
 use native.Mathlib.Omega.{arith}
 use borrow.Author.Tests.{lt-ltb, le-ltb, ne_eqb}
 use lib.Dec.{eqb}
+use lib.ListN.{get_or}
 use Rattle.spec_en300401.specs.Puncturing.{Region}
 use Rattle.spec_en300401.specs.Eep.{unit, level_of, first, eep_profile}
 use Rattle.spec_en300401.specs.Uep.{Row, uep_row, regions_of, uep_profile}
 use Rattle.spec_en300401.proofs.Eep.{eep_usable, first-blocks}
 use Rattle.fec_profiles.specs.declared.UepProfile.{UepProfile}
-use Rattle.fec_profiles.specs.Rows.{index, profile_row, is_none as none_there, row_in, uep_refusal, uep_found}
-use Rattle.refusal.specs.Outcome.{gives, refuses, outcome, unless_refused, check, first_of}
+use Rattle.fec_profiles.specs.Rows.{index, sections_of, profile_row, found}
+use Rattle.std.specs.Prelude.{«Option» as Perhaps, Ok, Err, Some, None}
+use Rattle.refusal.specs.declared.Refusal.TheVariants.{NoProfile}
+use Rattle.refusal.specs.Outcome.{gives, outcome, check, first_of}
+use Rattle.fec_protection.specs.declared.TheConstants.{EEP_LEVELS}
 use Rattle.fec_protection.specs.declared.EepLevel.{EepLevel}
-use Rattle.fec_protection.specs.declared.Judged.TheVariants.{«Accepted» as judged-accepted}
-use Rattle.fec_protection.specs.declared.Lookup.{Lookup}
 use Rattle.fec_protection.specs.declared.ProtectionParams.{ProtectionParams}
-use Rattle.fec_protection.specs.Answers.{judged_as}
-use Rattle.fec_protection.specs.Code.{level_row}
+use Rattle.fec_protection.specs.Code.{level_row, no_section}
 use Rattle.fec_protection.specs.Params.{params_of}
 use Rattle.fec_protection.specs.Refusals.{is_none, eep_row, uep_none}
 use Rattle.fec_protection.specs.Promises.{RowPromise}
@@ -29,6 +30,21 @@ pub unit_other : (o : ℕ) → (o ≡ 0 → ⊥) → unit o ≡ 32
 unfolding unit
 unit_other zero n = absurd (n refl)
 unit_other (suc o) n = refl
+
+-- the code's levels are the standard's
+pub level_is : (d : List EepLevel) (e : EepLevel) (o l : ℕ) → o ≤ 1 → l ≤ 3 → get_or (get_or EEP_LEVELS o d) l e ≡ level_row o l
+unfolding level_row level_of
+level_is d e zero zero h k = refl
+level_is d e zero (suc zero) h k = refl
+level_is d e zero (suc (suc zero)) h k = refl
+level_is d e zero (suc (suc (suc zero))) h k = refl
+level_is d e zero (suc (suc (suc (suc l)))) h k = absurd (omega arith)
+level_is d e (suc zero) zero h k = refl
+level_is d e (suc zero) (suc zero) h k = refl
+level_is d e (suc zero) (suc (suc zero)) h k = refl
+level_is d e (suc zero) (suc (suc (suc zero))) h k = refl
+level_is d e (suc zero) (suc (suc (suc (suc l)))) h k = absurd (omega arith)
+level_is d e (suc (suc o)) l h k = absurd (omega arith)
 
 -- the first refusal of 1 to 3, each from its test and those before it
 module _ (o l rate : ℕ) where
@@ -66,48 +82,35 @@ module _ (o l rate : ℕ) where
     unfolding eep_profile
     second-small s = omega (arith, second_is, ((eep_usable rate s o l).each 1).short)
 
-    pub eep_made : 3 ≤ row.fold1 * n → ◌≡◌ {A = ProtectionParams} (record { blocks = (row.fold1 * n - 3) ∷ (row.fold2 * n + 3) ∷ 0 ∷ 0 ∷ []; pi = row.pi1 ∷ row.pi2 ∷ 24 ∷ 24 ∷ [] }) (params_of (eep_profile o l rate))
-    unfolding params_of eep_profile index level_row
+    pub eep_made : 3 ≤ row.fold1 * n → ◌≡◌ {A = ProtectionParams} (record { sections = record { blocks = row.fold1 * n - 3; pi = row.pi1 } ∷ record { blocks = row.fold2 * n + 3; pi = row.pi2 } ∷ no_section ∷ no_section ∷ [] }) (params_of (eep_profile o l rate))
+    unfolding sections_of eep_profile index level_row
     eep_made h =
         let m : 3 < first o l rate = first-blocks o l rate (omega (arith, first-is)) in
         let p : eqb (first o l rate - 3) 0 ≡ false = ne_eqb (first o l rate - 3) 0 (λ z. omega arith) in
         let q : eqb ((level_of o l).fold2 * (rate / unit o) + 3) 0 ≡ false = ne_eqb ((level_of o l).fold2 * (rate / unit o) + 3) 0 (λ z. omega arith) in
-        rw (p, q) (λ i. record { blocks = (first-is i - 3) ∷ (second_is i + 3) ∷ 0 ∷ 0 ∷ []; pi = (e i).pi1 ∷ (e i).pi2 ∷ 24 ∷ 24 ∷ [] })
+        rw (p, q) (λ i. record { sections = record { blocks = first-is i - 3; pi = (e i).pi1 } ∷ record { blocks = second_is i + 3; pi = (e i).pi2 } ∷ no_section ∷ no_section ∷ [] })
 
--- the code's params of a UEP row
-abbrev pub params_by : UepProfile → ProtectionParams
-params_by p = record { blocks = p.l1 ∷ p.l2 ∷ p.l3 ∷ p.l4 ∷ []; pi = p.pi1 ∷ p.pi2 ∷ p.pi3 ∷ p.pi4 ∷ [] }
+abbrev none_found : Perhaps UepProfile
+none_found = None
 
 -- the scan's answer: a row, or refusal 4
 module _ (k l : ℕ) where
-  pub uep_given : (p : UepProfile) → gives p ≡ uep_found k l → first_of (uep_none k l) ≡ 0
-  unfolding uep_none uep_refusal
-  uep_given p e = go (uep_row k l) e
-    where
-      go : (o : Option Row) → gives p ≡ outcome (first_of (check 4 (none_there o) ∷ [])) (profile_row (row_in o)) → first_of (check 4 (is_none o) ∷ []) ≡ 0
-      go none q = let z : ◌≡◌ {A = ℕ} 0 1 = cc in absurd (omega arith)
-      go (some r) q = refl
-
-  pub uep_missing : refuses 4 ≡ uep_found k l → first_of (uep_none k l) ≡ 4
-  unfolding uep_none uep_refusal
-  uep_missing e = go (uep_row k l) e
-    where
-      go : (o : Option Row) → refuses 4 ≡ outcome (first_of (check 4 (none_there o) ∷ [])) (profile_row (row_in o)) → first_of (check 4 (is_none o) ∷ []) ≡ 4
-      go none q = refl
-      go (some r) q = let z : ◌≡◌ {A = ℕ} 0 1 = cc in absurd (omega arith)
-
-  pub uep_made : (p : UepProfile) → gives p ≡ uep_found k l → params_by p ≡ params_of (uep_profile k l)
-  unfolding uep_profile params_of profile_row uep_refusal
+  pub uep_made : (p : UepProfile) → Some p ≡ found (uep_row k l) → RowPromise (first_of (uep_none k l)) (uep_profile k l) (Ok (record { sections = p.sections }))
+  unfolding uep_none uep_profile profile_row
   uep_made p e = go (uep_row k l) e
     where
-      go : (o : Option Row) → gives p ≡ outcome (first_of (check 4 (none_there o) ∷ [])) (profile_row (row_in o)) → params_by p ≡ params_of (regions_of o)
-      go none q = let z : ◌≡◌ {A = ℕ} 0 1 = cc in absurd (omega arith)
-      go (some r) q = let w : p ≡ profile_row r = cc in ap params_by w
+      go : (o : Option Row) → Some p ≡ found o → RowPromise (first_of (check 4 (is_none o) ∷ [])) (regions_of o) (Ok (record { sections = p.sections }))
+      go none q = let z : ◌≡◌ {A = Bool} true false = cc in absurd (true≢false z)
+      go (some r) q = let w : p ≡ profile_row r = cc in record { answer = ap (λ (x : UepProfile). gives (record { sections = x.sections })) w }
 
--- the promise of a lookup, refused and given
-pub refused-row : (k : ℕ) {n : ℕ} {profile : List Region} {r : Lookup} → 0 < k → n ≡ k → (judged_as r.judged ≡ outcome k tt) × (r.params ≡ params_of []) → RowPromise n profile r
-refused-row zero h e p = absurd (omega arith)
-refused-row (suc k) {n} {profile} {r} h e p = record { answer = p.0 ∙ ap (λ (m : ℕ). outcome m tt) (sym e); row = p.1 ∙ ap (λ (m : ℕ). params_of (unless_refused m profile [])) (sym e) }
+  pub uep_missing : none_found ≡ found (uep_row k l) → RowPromise (first_of (uep_none k l)) (uep_profile k l) (Err NoProfile)
+  unfolding uep_none uep_profile
+  uep_missing e = go (uep_row k l) e
+    where
+      go : (o : Option Row) → none_found ≡ found o → RowPromise (first_of (check 4 (is_none o) ∷ [])) (regions_of o) (Err NoProfile)
+      go none q = record { answer = refl }
+      go (some r) q = let z : ◌≡◌ {A = Bool} true false = cc in absurd (true≢false z)
 
-pub given_row : {n : ℕ} {profile : List Region} {params : ProtectionParams} → n ≡ 0 → params ≡ params_of profile → RowPromise n profile (record { judged = judged-accepted; params = params })
-given_row {n} {profile} e p = record { answer = ap (λ (m : ℕ). outcome m tt) (sym e); row = p ∙ ap (λ (m : ℕ). params_of (unless_refused m profile [])) (sym e) }
+-- a row that is given
+pub given_row : {n : ℕ} {profile : List Region} {params : ProtectionParams} → n ≡ 0 → params ≡ params_of profile → RowPromise n profile (Ok params)
+given_row {n} {profile} e p = record { answer = ap gives p ∙ ap (λ (m : ℕ). outcome m (params_of profile)) (sym e) }

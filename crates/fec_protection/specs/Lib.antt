@@ -1,4 +1,3 @@
-pub mod Answers
 pub mod Code
 pub mod Descriptions
 pub mod Params

@@ -1,22 +1,20 @@
 // Protection: descriptions and their refusals 1 to 7, and the row and the sizes of a description (eep.rs and uep.rs).
 #![tactic(auto)]
 
-ghost use Rattle.std.specs.Prelude.{◌≡◌, [], ◌+◌, ◌*◌, ◌/◌, ◌%◌, ◌<◌, ◌≤◌, ◌^◌};
+ghost use Rattle.std.specs.Prelude.{◌≡◌, ◌+◌, ◌*◌, ◌<◌, ◌≤◌, ◌^◌};
 ghost use Rattle.spec_en300401.specs.Puncturing.{kept_size};
 ghost use Rattle.spec_en300401.specs.Eep.{unit, eep_profile};
 ghost use Rattle.spec_en300401.specs.Uep.{uep_profile};
-ghost use Rattle.refusal.specs.Outcome.{outcome, first_of};
-ghost use Rattle.fec_protection.specs.Answers.{judged_as};
-ghost use Rattle.fec_protection.specs.Code.{level_by, level_row, Bounded, blocks_by, sent_of, sent_by};
-ghost use Rattle.fec_protection.specs.Params.{params_of};
+ghost use Rattle.refusal.specs.Outcome.{outcome, first_of, told};
+ghost use Rattle.fec_protection.specs.Code.{level_row, Bounded, blocks_by, sent_of, sent_by};
 ghost use Rattle.fec_protection.specs.Promises.{mother_size, JudgePromise, RowPromise, SizePromise};
 ghost use Rattle.fec_protection.specs.Refusals.{profile_of, row_refusal_of, eep_row, uep_none, outside, eep_shape, uep_shape};
 
-use fec_profiles::Found;
+use fec_profiles::Section;
 use refusal::Refusal;
 
 // A sub-channel's place, size, bit rate and protection, as they follow from FIG 0/1: units, units, kbit/s.
-#[derive(Clone, Copy)]
+#[derive(Clone, Copy, Debug, PartialEq, Eq)]
 pub struct Description {
     pub start_addr: u16,
     pub sub_size: u16,
@@ -26,30 +24,14 @@ pub struct Description {
     pub is_eep: bool,
 }
 
-#[derive(Clone, Copy)]
-pub enum Judged {
-    Accepted,
-    Refused(Refusal),
-}
-
-// Blocks and vectors of four regions; `pi` counts from 0, and 24 stands with an empty region.
-#[derive(Clone, Copy)]
+// The four regions of a profile; an empty one stands with `pi` 24.
+#[derive(Clone, Copy, Debug, PartialEq, Eq)]
 pub struct ProtectionParams {
-    pub blocks: [usize; 4],
-    pub pi: [usize; 4],
+    pub sections: [Section; 4],
 }
 
-#[derive(Clone, Copy)]
-pub struct Lookup {
-    pub judged: Judged,
-    pub params: ProtectionParams,
-}
-
-#[derive(Clone, Copy)]
-pub enum Size {
-    Values(usize),
-    Refused(Refusal),
-}
+// No region: no blocks, under none of the 24 vectors.
+const EMPTY: Section = Section { blocks: 0, pi: 24 };
 
 // L1 is fold1 × n - 3, L2 is fold2 × n + 3.
 #[derive(Clone, Copy)]
@@ -60,115 +42,79 @@ struct EepLevel {
     pi2: usize,
 }
 
-fn refused(number: u8) -> Judged
-    requires { 0 < number }
-    ensures { judged_as result ≡ outcome number tt }
-{
-    Judged::Refused(Refusal { number: number })
-}
-
-fn level_of(fold1: usize, fold2: usize, pi1: usize, pi2: usize) -> EepLevel
-    ensures { result ≡ level_by fold1 fold2 pi1 pi2 }
-{
-    EepLevel {
-        fold1,
-        fold2,
-        pi1,
-        pi2,
-    }
+// Levels by fold1, fold2, pi1 and pi2.
+macro_rules! levels {
+    ($($fold1:literal $fold2:literal $pi1:literal $pi2:literal),*) => {
+        [$(EepLevel { fold1: $fold1, fold2: $fold2, pi1: $pi1, pi2: $pi2 }),*]
+    };
 }
 
 // 1-A to 4-A, 1-B to 4-B.
+const EEP_LEVELS: [[EepLevel; 4]; 2] = [
+    levels!(6 0 23 22, 2 4 13 12, 6 0 7 6, 4 2 2 1),
+    levels!(24 0 9 8, 24 0 5 4, 24 0 3 2, 24 0 1 0),
+];
+
 fn eep_level(option: u8, level: u8) -> EepLevel
     requires { (option ≤ 1) × (level ≤ 3) }
     ensures { result ≡ level_row option level }
 {
-    if option == 0 {
-        match level {
-            0 => level_of(6, 0, 23, 22),
-            1 => level_of(2, 4, 13, 12),
-            2 => level_of(6, 0, 7, 6),
-            _ => level_of(4, 2, 2, 1),
-        }
-    } else {
-        match level {
-            0 => level_of(24, 0, 9, 8),
-            1 => level_of(24, 0, 5, 4),
-            2 => level_of(24, 0, 3, 2),
-            _ => level_of(24, 0, 1, 0),
-        }
-    }
+    EEP_LEVELS[usize::from(option)][usize::from(level)]
 }
 
-// Whole units of 8 or 32 kbit/s in a bit rate.
-fn units_in(bitrate: u16, option: u8) -> usize
-    ensures { result ≡ bitrate / unit option }
+// The unit of a bit rate: 8 kbit/s, or 32.
+#[tactic(auto, unfolding(spec_en300401::specs::Eep::unit))]
+fn unit(option: u8) -> usize
+    ensures value { result ≡ unit option }
+    ensures positive { 0 < result }
 {
-    let rate = bitrate as usize;
-    if option == 0 { rate / 8 } else { rate / 32 }
+    if option == 0 { 8 } else { 32 }
 }
 
-fn no_row(number: u8) -> Lookup
-    requires { 0 < number }
-    ensures { (judged_as result.judged ≡ outcome number tt) × (result.params ≡ params_of []) }
-{
-    Lookup {
-        judged: refused(number),
-        params: ProtectionParams {
-            blocks: [0; 4],
-            pi: [24; 4],
-        },
-    }
-}
-
-fn eep_params(bitrate: u16, level: u8, option: u8) -> Lookup
+fn eep_params(bitrate: u16, level: u8, option: u8) -> Result<ProtectionParams, Refusal>
     ensures { RowPromise (first_of (eep_row option level bitrate)) (eep_profile option level bitrate) result }
 {
     if option > 1 {
-        return no_row(1);
+        return Err(Refusal::NoSuchOption);
     }
     if level > 3 {
-        return no_row(2);
+        return Err(Refusal::NoSuchLevel);
     }
     let row = eep_level(option, level);
-    let n = units_in(bitrate, option);
+    let n = usize::from(bitrate) / unit(option);
     let first = row.fold1 * n;
     if first < 3 {
-        return no_row(3);
+        return Err(Refusal::RateTooLow);
     }
     let second = row.fold2 * n;
-    Lookup {
-        judged: Judged::Accepted,
-        params: ProtectionParams {
-            blocks: [first - 3, second + 3, 0, 0],
-            pi: [row.pi1, row.pi2, 24, 24],
-        },
-    }
+    Ok(ProtectionParams {
+        sections: [
+            Section {
+                blocks: first - 3,
+                pi: row.pi1,
+            },
+            Section {
+                blocks: second + 3,
+                pi: row.pi2,
+            },
+            EMPTY,
+            EMPTY,
+        ],
+    })
 }
 
-fn uep_params(bitrate: u16, level: u8) -> Lookup
+fn uep_params(bitrate: u16, level: u8) -> Result<ProtectionParams, Refusal>
     ensures { RowPromise (first_of (uep_none bitrate level)) (uep_profile bitrate level) result }
 {
-    let found = fec_profiles::uep_profile(bitrate, level);
-    match found {
-        Found::Row(p) => Lookup {
-            judged: Judged::Accepted,
-            params: ProtectionParams {
-                blocks: [p.l1 as usize, p.l2 as usize, p.l3 as usize, p.l4 as usize],
-                pi: [
-                    p.pi1 as usize,
-                    p.pi2 as usize,
-                    p.pi3 as usize,
-                    p.pi4 as usize,
-                ],
-            },
-        },
-        Found::Nothing => no_row(4),
-    }
+    let Some(row) = fec_profiles::uep_profile(bitrate, level) else {
+        return Err(Refusal::NoProfile);
+    };
+    let sections = row.sections;
+    Ok(ProtectionParams { sections })
 }
 
 // The row of a description, or its first refusal of 1 to 4; one lookup for EEP and UEP alike.
-pub fn protection_params(d: Description) -> Lookup
+pub fn protection_params(d: Description) -> Result<ProtectionParams, Refusal>
     ensures { RowPromise (row_refusal_of d) (profile_of d) result }
 {
     if d.is_eep {
@@ -179,115 +125,87 @@ pub fn protection_params(d: Description) -> Lookup
 }
 
 // Values that a region sends: 4 × (9 + pi) for each block.
-fn sent_in(blocks: usize, pi: usize) -> usize
-    requires { (blocks < 65536) × (pi ≤ 24) }
-    ensures { (result ≡ sent_of blocks pi) × (result < 2 ^ 24) }
+fn sent_in(section: Section) -> usize
+    requires { (section.blocks < 65536) × (section.pi ≤ 24) }
+    ensures { (result ≡ sent_of section) × (result < 2 ^ 24) }
 {
-    4 * (blocks * (9 + pi))
+    4 * (section.blocks * (9 + section.pi))
 }
 
 fn kept_size(p: ProtectionParams) -> usize
     requires { Bounded p }
     ensures { result ≡ sent_by p + 12 }
 {
-    let b = p.blocks;
-    let v = p.pi;
-    let first = sent_in(b[0], v[0]);
-    let second = sent_in(b[1], v[1]);
-    let third = sent_in(b[2], v[2]);
-    let fourth = sent_in(b[3], v[3]);
-    first + second + third + fourth + 12
+    let [a, b, c, d] = p.sections;
+    sent_in(a) + sent_in(b) + sent_in(c) + sent_in(d) + 12
 }
 
 fn mother_size(p: ProtectionParams) -> usize
     requires { Bounded p }
     ensures { result ≡ 128 * blocks_by p + 24 }
 {
-    let b = p.blocks;
-    128 * (b[0] + b[1] + b[2] + b[3]) + 24
+    let [a, b, c, d] = p.sections;
+    128 * (a.blocks + b.blocks + c.blocks + d.blocks) + 24
 }
 
 // How many values a sub-channel must hold, or the description's first refusal of 1 to 4.
-pub fn needed_size(d: Description) -> Size
+pub fn needed_size(d: Description) -> Result<usize, Refusal>
     ensures { SizePromise kept_size d result }
 {
-    let found = protection_params(d);
-    let judged = found.judged;
-    let params = found.params;
-    match judged {
-        Judged::Refused(r) => Size::Refused(r),
-        Judged::Accepted => Size::Values(kept_size(params)),
-    }
+    let params = protection_params(d)?;
+    Ok(kept_size(params))
 }
 
 // How many values they become, or the description's first refusal of 1 to 4.
-pub fn depunctured_size(d: Description) -> Size
+pub fn depunctured_size(d: Description) -> Result<usize, Refusal>
     ensures { SizePromise mother_size d result }
 {
-    let found = protection_params(d);
-    let judged = found.judged;
-    let params = found.params;
-    match judged {
-        Judged::Refused(r) => Size::Refused(r),
-        Judged::Accepted => Size::Values(mother_size(params)),
-    }
+    let params = protection_params(d)?;
+    Ok(mother_size(params))
 }
 
-// What a bit rate is over a whole number of units of 8 or 32 kbit/s.
-fn over_units(bitrate: u16, option: u8) -> usize
-    ensures { result ≡ bitrate % unit option }
+fn judge_place(start: u16, size: u16) -> Result<(), Refusal>
+    ensures { told result ≡ outcome (outside start size) tt }
 {
-    let rate = bitrate as usize;
-    if option == 0 { rate % 8 } else { rate % 32 }
+    if usize::from(start) + usize::from(size) > 864 {
+        return Err(Refusal::BeyondCif);
+    }
+    Ok(())
 }
 
-fn judge_place(start: u16, size: u16) -> Judged
-    ensures { judged_as result ≡ outcome (outside start size) tt }
+fn judge_eep(option: u8, bitrate: u16, start: u16, size: u16, needed: usize) -> Result<(), Refusal>
+    ensures { told result ≡ outcome (first_of (eep_shape option bitrate start size needed)) tt }
 {
-    if (start as usize) + (size as usize) > 864 {
-        return refused(7);
+    if 64 * usize::from(size) != needed {
+        return Err(Refusal::SizeDiffers);
     }
-    Judged::Accepted
-}
-
-fn judge_eep(option: u8, bitrate: u16, start: u16, size: u16, needed: usize) -> Judged
-    ensures { judged_as result ≡ outcome (first_of (eep_shape option bitrate start size needed)) tt }
-{
-    if 64 * (size as usize) != needed {
-        return refused(5);
-    }
-    if over_units(bitrate, option) != 0 {
-        return refused(6);
+    if usize::from(bitrate) % unit(option) != 0 {
+        return Err(Refusal::UnevenRate);
     }
     judge_place(start, size)
 }
 
-fn judge_uep(start: u16, size: u16, needed: usize) -> Judged
-    ensures { judged_as result ≡ outcome (first_of (uep_shape start size needed)) tt }
+fn judge_uep(start: u16, size: u16, needed: usize) -> Result<(), Refusal>
+    ensures { told result ≡ outcome (first_of (uep_shape start size needed)) tt }
 {
-    let have = 64 * (size as usize);
+    let have = 64 * usize::from(size);
     if have < needed {
-        return refused(5);
+        return Err(Refusal::SizeDiffers);
     }
     if have - needed > 8 {
-        return refused(5);
+        return Err(Refusal::SizeDiffers);
     }
     judge_place(start, size)
 }
 
 // The description's first refusal of 1 to 7.
-pub fn judge(d: Description) -> Judged
+pub fn judge(d: Description) -> Result<(), Refusal>
     ensures { JudgePromise d result }
 {
-    let size = needed_size(d);
-    match size {
-        Size::Refused(r) => Judged::Refused(r),
-        Size::Values(needed) => {
-            if d.is_eep {
-                judge_eep(d.eep_option, d.bitrate, d.start_addr, d.sub_size, needed)
-            } else {
-                judge_uep(d.start_addr, d.sub_size, needed)
-            }
-        }
+    let needed = needed_size(d)?;
+    if d.is_eep {
+        judge_eep(d.eep_option, d.bitrate, d.start_addr, d.sub_size, needed)
+    } else {
+        judge_uep(d.start_addr, d.sub_size, needed)
     }
 }

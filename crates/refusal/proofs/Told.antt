@@ -5,7 +5,7 @@ use mathlib.Core.List.{[], ◌∷◌}
 use Prim.Native.Nat.{ℕ, zero, suc}
 use native.Mathlib.Omega.{arith}
 use lib.ListN.{get_or}
-use Rattle.std.specs.Prelude.{Result, Ok, Err}
+use Rattle.std.specs.Prelude.{Result, Ok, Err, IsErrAnd}
 use Rattle.refusal.specs.declared.Refusal.{Refusal}
 use Rattle.refusal.specs.declared.Refusal.TheVariants.{NoSuchOption, NoSuchLevel, RateTooLow, NoProfile, SizeDiffers, UnevenRate, BeyondCif, ShortBuffer, ShortSymbol, BadState, LongInput, ShortDirectory}
 use Rattle.refusal.specs.Outcome.{refuses, outcome, numbered, told}
@@ -58,3 +58,8 @@ module _ {A : Type 0} where
   pub passed_on : {B : Type 0} (n : ℕ) (a : A) (b : B) (x : Refusal) → refuses (numbered x) ≡ outcome n a → refuses (numbered x) ≡ outcome n b
   passed_on zero a b x e = let z : ◌≡◌ {A = ℕ} 0 1 = cc in absurd (omega arith)
   passed_on (suc n) a b x e = let q : numbered x ≡ suc n = cc in ap refuses q
+
+  -- what `?` returns is the refusal that it met
+  pub residual : (r : Result A Refusal) (x : Refusal) → IsErrAnd r (λ y. y ≡ x) → r ≡ Err x
+  residual (Ok a) x e = absurd e
+  residual (Err y) x e = ap Err e

@@ -1,22 +1,24 @@
 -- Each test is the first that holds in document 01's order.
-use Rattle.std.proofs.Common.{◌∙◌, sym, ap, ℕ}
+use Rattle.std.proofs.Common.{◌≡◌, ◌∙◌, refl, sym, ap, ap₂, ℕ, ◌%◌, ◌*◌, arith}
+use Rattle.spec_en300401.specs.Eep.{unit}
 use Rattle.refusal.specs.Outcome.{outcome}
 use Rattle.fec_protection.proofs.Shapes.{size-refused, unit-refused, eep-place}
 use Rattle.fec_protection.proofs.judge_eep.Goals as goal
 
-pub returns-then-size-needed : goal.returns-then-size-needed
-returns-then-size-needed c =
+pub returns-then-from-needed : goal.returns-then-from-needed
+returns-then-from-needed c =
     let a = c.args in
-    c.refused.ensures ∙ ap (λ (n : ℕ). outcome n tt) (sym (size-refused a.start a.size a.option a.bitrate a.needed c.if-size-needed.true))
+    rw (size-refused a.start a.size a.option a.bitrate a.needed (λ e. c.if-from-needed.true (ap (λ (n : ℕ). 64 * n) c.from.ensures ∙ e))) refl
 
-pub returns-then-over_units-ne0 : goal.returns-then-over_units-ne0
-returns-then-over_units-ne0 c =
+pub returns-then-from-unit-ne0 : goal.returns-then-from-unit-ne0
+returns-then-from-unit-ne0 c =
     let a = c.args in
-    c.refused-then-over_units-ne0.ensures
-    ∙ ap (λ (n : ℕ). outcome n tt) (sym (unit-refused a.start a.size a.option a.bitrate a.needed c.if-size-needed.false (λ e. c.if-over_units-ne0.true (c.over_units.ensures ∙ e))))
+    let fits : 64 * a.size ≡ a.needed = omega (arith, c.from.ensures) in
+    rw (unit-refused a.start a.size a.option a.bitrate a.needed fits (λ e. c.if-from-unit-ne0.true (ap₂ (λ (n m : ℕ). n % m) c.from-2.ensures c.unit.ensures.value ∙ e))) refl
 
 pub returns : goal.returns
 returns c =
     let a = c.args in
-    c.judge_place.ensures
-    ∙ ap (λ (n : ℕ). outcome n tt) (sym (eep-place a.start a.size a.option a.bitrate a.needed c.if-size-needed.false (sym c.over_units.ensures ∙ c.if-over_units-ne0.false)))
+    let fits : 64 * a.size ≡ a.needed = omega (arith, c.from.ensures) in
+    let even : a.bitrate % unit a.option ≡ 0 = sym (ap₂ (λ (n m : ℕ). n % m) c.from-2.ensures c.unit.ensures.value) ∙ c.if-from-unit-ne0.false in
+    c.judge_place.ensures ∙ ap (λ (n : ℕ). outcome n tt) (sym (eep-place a.start a.size a.option a.bitrate a.needed fits even))
