@@ -1,13 +1,18 @@
 -- What a call that is not refused has: a sound state, buffers that are long enough, a whole symbol.
 -- Assumes nothing.
 use mathlib.Core.Path.{◌≡◌}
-use mathlib.Core.Bool.{false}
+use mathlib.Core.Bool.{false, true≢false}
 use Prim.Native.Nat.{ℕ, ◌≤◌}
 use borrow.Author.Tests.{ltb-false}
 use lib.Dec.{ltb}
 use Rattle.fec_protection.specs.declared.Description.{Description}
 use Rattle.fec_protection.specs.Refusals.{Accepted as IsAccepted, depunctured_length}
 use Rattle.fec_protection.proofs.Accepted.{passes_accepted}
+use Rattle.std.specs.Prelude.{Result, Ok, Err}
+use Rattle.std.specs.Result.{is_err}
+use Rattle.refusal.specs.declared.Refusal.{Refusal}
+use Rattle.refusal.specs.Outcome.{outcome, told}
+use Rattle.refusal.proofs.Laws.{given_number}
 use Rattle.refusal.proofs.Checks.{none_of, off_at, clean, zeroed, later, held_not}
 use Rattle.msc_state.specs.declared.Lengths.{Lengths}
 use Rattle.msc_state.specs.declared.State.{State}
@@ -53,9 +58,9 @@ pub set_up_long : (d : Description) (ring : ℕ) → set_up_refusal d ring ≡ 0
 unfolding set_up_refusal
 set_up_long d ring e = ltb-false ring (ring_length d) (held_not 7 (ltb ring (ring_length d)) (zeroed (later (clean (set_up_checks d ring) e))))
 
-pub reset-long : (s : State) (ring : ℕ) → reset_refusal s ring ≡ 0 → ring_length s.channel.description ≤ ring
+pub reset_long : (s : State) (ring : ℕ) → reset_refusal s ring ≡ 0 → ring_length s.channel.description ≤ ring
 unfolding reset_refusal
-reset-long s ring e =
+reset_long s ring e =
     let n = ring_length s.channel.description in
     ltb-false ring n (held_not 7 (ltb ring n) (zeroed (later (clean (reset_checks s ring) e))))
 
@@ -75,3 +80,8 @@ accepted s soft l e =
       lengths = long_enough d l (held_not 7 (is_too_short d l) (zeroed n1));
       symbol = ltb-false soft 3072 (held_not 8 (ltb soft 3072) (zeroed (later n1)));
     }
+
+-- an answer that is no error has number 0
+pub number_zero : {A : Type 0} (r : Result A Refusal) (n : ℕ) (a : A) → told r ≡ outcome n a → is_err r ≡ false → n ≡ 0
+number_zero (Ok x) n a e h = given_number n a x e
+number_zero (Err y) n a e h = absurd (true≢false h)

@@ -1,14 +1,15 @@
 // The state of a sub-channel between symbols, and its refusals (msc/mod.rs).
 #![tactic(auto)]
 
-ghost use Rattle.std.specs.Prelude.{◌≡◌, cond};
-ghost use Rattle.fec_protection.specs.Refusals.{refusal_of};
-ghost use Rattle.msc_state.specs.States.{bad_state, is_too_short, set_up_refusal, reset_refusal, feed_refusal};
+ghost use Rattle.std.specs.Prelude.{◌≡◌, ltb};
+ghost use Rattle.refusal.specs.Outcome.{outcome, check, told};
+ghost use Rattle.msc_state.specs.States.{ring_length, bad_state, is_too_short, set_up_refusal, reset_refusal, feed_refusal, fresh_state};
 
-use fec_protection::{Description, Judged};
+use fec_protection::Description;
+use refusal::Refusal;
 
 // What belongs to the sub-channel.
-#[derive(Clone, Copy)]
+#[derive(Clone, Copy, Debug, PartialEq, Eq)]
 pub struct Channel {
     pub description: Description,
     pub ring_index: u8,
@@ -17,15 +18,34 @@ pub struct Channel {
 }
 
 // What belongs to the CIF, and the sub-channel.
-#[derive(Clone, Copy)]
+#[derive(Clone, Copy, Debug, PartialEq, Eq)]
 pub struct State {
     pub symbols: u8,
     pub cif_in_frame: u8,
     pub channel: Channel,
 }
 
+impl State {
+    // The state of a new set-up: nothing counted yet.
+    #[tactic(auto, unfolding(crate::specs::States::started_at))]
+    pub fn fresh(description: Description) -> State
+        ensures { result ≡ fresh_state description }
+    {
+        State {
+            symbols: 0,
+            cif_in_frame: 0,
+            channel: Channel {
+                description,
+                ring_index: 0,
+                cif_count: 0,
+                frames_decoded: 0,
+            },
+        }
+    }
+}
+
 // The lengths of the seven buffers that a caller of feeding provides.
-#[derive(Clone, Copy)]
+#[derive(Clone, Copy, Debug, PartialEq, Eq)]
 pub struct Lengths {
     pub cif: usize,
     pub ring: usize,
@@ -36,104 +56,84 @@ pub struct Lengths {
     pub frame: usize,
 }
 
-// The first refusal of a description, 0 where there is none.
-fn description_refusal(d: Description) -> u8
-    ensures { result ≡ refusal_of d }
-{
-    let judged = fec_protection::judge(d);
-    match judged {
-        Judged::Accepted => 0,
-        Judged::Refused(refusal) => refusal.number,
-    }
-}
-
 // A count above its range, or a description refused by 1 to 7.
+#[tactic(auto, unfolding(crate::specs::States::bad_state))]
 pub fn is_bad(state: State) -> bool
     ensures { result ≡ bad_state state }
 {
     let channel = state.channel;
-    let d = channel.description;
-    if state.symbols > 17 {
-        return true;
-    }
-    if state.cif_in_frame > 3 {
-        return true;
-    }
-    if channel.ring_index > 15 {
-        return true;
-    }
-    if channel.cif_count > 17 {
-        return true;
-    }
-    description_refusal(d) != 0
+    state.symbols > 17
+        || state.cif_in_frame > 3
+        || channel.ring_index > 15
+        || channel.cif_count > 17
+        || fec_protection::judge(channel.description).is_err()
 }
 
 // Some buffer is shorter than this description needs.
+#[tactic(auto, unfolding(crate::specs::States::is_too_short))]
 fn too_short(d: Description, lengths: Lengths) -> bool
     ensures { result ≡ is_too_short d lengths }
 {
-    let size = d.sub_size as usize;
-    let rate = d.bitrate as usize;
-    if lengths.cif < 55296 {
-        return true;
-    }
-    if lengths.ring < 1024 * size {
-        return true;
-    }
-    if lengths.deinterleaved < 64 * size {
-        return true;
-    }
-    if lengths.depunctured < 96 * rate + 24 {
-        return true;
-    }
-    if lengths.words < 24 * rate + 6 {
-        return true;
-    }
-    if lengths.bits < 24 * rate + 6 {
-        return true;
-    }
-    lengths.frame < 3 * rate
+    let size = usize::from(d.sub_size);
+    let rate = usize::from(d.bitrate);
+    lengths.cif < 55_296
+        || lengths.ring < 1024 * size
+        || lengths.deinterleaved < 64 * size
+        || lengths.depunctured < 96 * rate + 24
+        || lengths.words < 24 * rate + 6
+        || lengths.bits < 24 * rate + 6
+        || lengths.frame < 3 * rate
 }
 
-// A refusal where its condition holds, else a later one.
-fn first(holds: bool, number: u8, later: u8) -> u8
-    ensures { result ≡ cond holds number later }
+// 10 for a state that set-up and feeding never give.
+fn check_state(state: State) -> Result<(), Refusal>
+    ensures { told result ≡ outcome (check 10 (bad_state state)) tt }
 {
-    if holds { number } else { later }
-}
-
-// 1 to 7, then 8.
-pub fn set_up_refusal(d: Description, ring: usize) -> u8
-    ensures { result ≡ set_up_refusal d ring }
-{
-    let number = description_refusal(d);
-    if number != 0 {
-        return number;
+    if is_bad(state) {
+        return Err(Refusal::BadState);
     }
-    if ring < 1024 * (d.sub_size as usize) {
-        return 8;
+    Ok(())
+}
+
+// 8 for a ring shorter than the description needs.
+fn check_ring(d: Description, ring: usize) -> Result<(), Refusal>
+    ensures { told result ≡ outcome (check 8 (ltb ring (ring_length d))) tt }
+{
+    if ring < 1024 * usize::from(d.sub_size) {
+        return Err(Refusal::ShortBuffer);
     }
-    0
+    Ok(())
 }
 
-// 10, 8.
-pub fn reset_refusal(state: State, ring: usize) -> u8
-    ensures { result ≡ reset_refusal state ring }
+// Whether set-up is refused: by 1 to 7, then 8.
+#[tactic(auto, unfolding(crate::specs::States::set_up_refusal))]
+pub fn check_set_up(d: Description, ring: usize) -> Result<(), Refusal>
+    ensures { told result ≡ outcome (set_up_refusal d ring) tt }
 {
-    let channel = state.channel;
-    let d = channel.description;
-    let bad = is_bad(state);
-    let need = 1024 * (d.sub_size as usize);
-    first(bad, 10, first(ring < need, 8, 0))
+    fec_protection::judge(d)?;
+    check_ring(d, ring)
 }
 
-// 10, 8, 9.
-pub fn feed_refusal(state: State, soft: usize, lengths: Lengths) -> u8
-    ensures { result ≡ feed_refusal state soft lengths }
+// Whether reset is refused: by 10, then 8.
+#[tactic(auto, unfolding(crate::specs::States::reset_refusal))]
+pub fn check_reset(state: State, ring: usize) -> Result<(), Refusal>
+    ensures { told result ≡ outcome (reset_refusal state ring) tt }
 {
-    let channel = state.channel;
-    let d = channel.description;
-    let bad = is_bad(state);
-    let short = too_short(d, lengths);
-    first(bad, 10, first(short, 8, first(soft < 3072, 9, 0)))
+    check_state(state)?;
+    check_ring(state.channel.description, ring)
+}
+
+// Whether a symbol is refused: by 10, 8, then 9.
+#[tactic(auto, unfolding(crate::specs::States::feed_refusal))]
+pub fn check_feed(state: State, soft: usize, lengths: Lengths) -> Result<(), Refusal>
+    ensures { told result ≡ outcome (feed_refusal state soft lengths) tt }
+{
+    check_state(state)?;
+    if too_short(state.channel.description, lengths) {
+        return Err(Refusal::ShortBuffer);
+    }
+    if soft < 3072 {
+        return Err(Refusal::ShortSymbol);
+    }
+    Ok(())
 }
