@@ -1,12 +1,12 @@
 // The state of a sub-channel after a symbol (msc/mod.rs).
 #![tactic(auto)]
 
-ghost use Rattle.std.specs.Prelude.{◌≡◌, cond, ◌+◌, ◌%◌, ◌<◌, min, ltb};
-ghost use Rattle.msc_state.specs.States.{most_frames, channel_after, state_after};
+ghost use Rattle.std.specs.Prelude.{◌≡◌, ◌+◌, ◌%◌, ◌<◌};
+ghost use Rattle.msc_state.specs.States.{channel_after, state_after};
 
 use msc_state::{Channel, State};
 
-// One more, modulo n.
+// One more, modulo n, of any number: x + 1 may not fit.
 fn next(x: u8, n: u8) -> u8
     requires { 0 < n }
     ensures { result ≡ (x + 1) % n }
@@ -14,63 +14,38 @@ fn next(x: u8, n: u8) -> u8
     (x % n + 1) % n
 }
 
-// One more, held at 17.
-fn counted(count: u8) -> u8
-    ensures { result ≡ min 17 (count + 1) }
-{
-    if count < 17 { count + 1 } else { 17 }
-}
-
-// One more, held at the largest.
-fn one_more(frames: u64) -> u64
-    ensures { result ≡ min most_frames (frames + 1) }
-{
-    if frames < 18446744073709551615 {
-        frames + 1
-    } else {
-        frames
-    }
-}
-
-// One frame more where the count, which has been moved on, is above 16.
-fn frames_after(count: u8, frames: u64) -> u64
-    ensures { result ≡ cond (ltb 16 count) (min most_frames (frames + 1)) frames }
-{
-    if count <= 16 {
-        return frames;
-    }
-    one_more(frames)
-}
-
 // The sub-channel after a whole CIF.
+#[tactic(auto, unfolding(msc_state::specs::States::channel_after))]
 fn moved_on(channel: Channel) -> Channel
     ensures { result ≡ channel_after channel }
 {
-    let count = counted(channel.cif_count);
-    let d = channel.description;
+    let frames = channel.frames_decoded;
     Channel {
-        description: d,
         ring_index: next(channel.ring_index, 16),
-        cif_count: count,
-        frames_decoded: frames_after(count, channel.frames_decoded),
+        cif_count: channel.cif_count.saturating_add(1).min(17),
+        frames_decoded: if channel.cif_count < 16 {
+            frames
+        } else {
+            frames.saturating_add(1)
+        },
+        ..channel
     }
 }
 
 // The state after a symbol.
+#[tactic(auto, unfolding(msc_state::specs::States::state_after))]
 pub fn after_symbol(state: State) -> State
     ensures { result ≡ state_after state }
 {
-    let channel = state.channel;
     if state.symbols < 17 {
         return State {
             symbols: state.symbols + 1,
-            cif_in_frame: state.cif_in_frame,
-            channel,
+            ..state
         };
     }
     State {
         symbols: 0,
         cif_in_frame: next(state.cif_in_frame, 4),
-        channel: moved_on(channel),
+        channel: moved_on(state.channel),
     }
 }
