@@ -1,7 +1,7 @@
 // The CRC of a FIB: the byte test (constants.rs) and the bit test (fic/handler.rs).
 #![tactic(auto)]
 
-ghost use Rattle.std.specs.Prelude.{◌≡◌, ◌+◌, ◌*◌, ◌/◌, ◌%◌, ◌^◌, ◌<◌, length};
+ghost use Rattle.std.specs.Prelude.{◌≡◌, ◌*◌, length, fold};
 ghost use Rattle.laws.specs.Bits.{num_of, bits_of, AreBits};
 ghost use Rattle.spec_en300401.specs.Bytes.{bits_of_bytes};
 ghost use Rattle.spec_en300401.specs.Crc.{crc_step, crc_from};
@@ -16,92 +16,49 @@ pub const FIB_CRC_LENGTH: usize = 2;
 pub const K: usize = 1536;
 
 // The register after one bit more.
-fn crc_step(reg: u16, bit: u16) -> u16
-    requires { bit < 2 }
+#[tactic(auto, unfolding(spec_en300401::specs::Crc::crc_step))]
+fn crc_step(reg: u16, bit: u8) -> u16
     ensures { result ≡ crc_step reg bit }
 {
-    let shifted = reg % 0x8000 * 2;
-    let differ = (reg / 0x8000 + bit) % 2;
+    let shifted = reg << 1;
+    let differ = ((reg >> 15) + u16::from(bit)) % 2;
     shifted ^ (differ * 0x1021)
 }
 
-fn bit_of(byte: u8, place: u8) -> u16
-    requires { place < 8 }
-    ensures { result ≡ byte / 2 ^ place % 2 }
-{
-    ((byte >> place) % 2) as u16
-}
-
-// The register after the eight bits of a byte.
+// The register after the eight bits of a byte, the high bit first.
 fn crc_byte(start: u16, byte: u8) -> u16
     ensures { result ≡ crc_from start (bits_of 8 byte) }
 {
     let mut reg = start;
-    let mut left: u8 = 8;
-    while 0 < left {
-        left -= 1;
-        reg = crc_step(reg, bit_of(byte, left));
+    for place in (0..8u8).rev() {
+        reg = crc_step(reg, byte >> place & 1);
     }
     reg
 }
 
 // The register after the bits of some bytes.
 fn crc_bytes(bytes: &[u8]) -> u16
-    ensures { result ≡ crc_from 0xffff (bits_of_bytes bytes.now) }
+    ensures { result ≡ fold (λ r y. crc_from r (bits_of 8 y)) 0xffff bytes.now }
 {
-    let mut reg: u16 = 0xffff;
-    let mut i: usize = 0;
-    while i < bytes.len() {
-        reg = crc_byte(reg, bytes[i]);
-        i += 1;
-    }
-    reg
+    bytes.iter().fold(0xffff, |reg, byte| crc_byte(reg, *byte))
 }
 
-fn wide(x: u8) -> u16
-    ensures { result ≡ x }
+// The register after some bits.
+fn crc_bits(bits: &[u8]) -> u16
+    ensures { result ≡ fold crc_step 0xffff bits.now }
 {
-    x as u16
+    bits.iter().fold(0xffff, |reg, bit| crc_step(reg, *bit))
 }
 
 // Whether the first 32 bytes are a FIB with a good CRC.
 pub fn fib_crc_valid(fib: &[u8]) -> bool
     ensures { result ≡ byte_test fib.now }
 {
-    if fib.len() < FIB_LENGTH {
+    let Some(fib) = fib.first_chunk::<FIB_LENGTH>() else {
         return false;
-    }
-    let end = FIB_LENGTH - FIB_CRC_LENGTH;
-    let word = 0xffff - crc_bytes(&fib[0..end]);
-    let sent = wide(fib[end]) * 256 + wide(fib[end + 1]);
-    word == sent
-}
-
-fn are_bits(bits: &[u8]) -> bool
-    ensures { result ≡ all_bits bits.now }
-{
-    let mut i: usize = 0;
-    while i < bits.len() {
-        if 1 < bits[i] {
-            return false;
-        }
-        i += 1;
-    }
-    true
-}
-
-// The register after some bits.
-fn crc_bits(bits: &[u8]) -> u16
-    requires { AreBits bits.now }
-    ensures { result ≡ crc_from 0xffff bits.now }
-{
-    let mut reg: u16 = 0xffff;
-    let mut i: usize = 0;
-    while i < bits.len() {
-        reg = crc_step(reg, wide(bits[i]));
-        i += 1;
-    }
-    reg
+    };
+    let (covered, sent) = fib.split_at(FIB_LENGTH - FIB_CRC_LENGTH);
+    !crc_bytes(covered) == u16::from_be_bytes([sent[0], sent[1]])
 }
 
 // The number with these 16 bits, the high bit first.
@@ -110,13 +67,17 @@ fn word_of(bits: &[u8]) -> u16
     requires are_bits { AreBits bits.now }
     ensures { result ≡ num_of bits.now }
 {
-    let mut word: u16 = 0;
-    let mut i: usize = 0;
-    while i < bits.len() {
-        word = word * 2 + wide(bits[i]);
-        i += 1;
+    let mut word = 0;
+    for bit in bits {
+        word = word * 2 + u16::from(*bit);
     }
     word
+}
+
+fn are_bits(bits: &[u8]) -> bool
+    ensures { result ≡ all_bits bits.now }
+{
+    bits.iter().all(|bit| *bit < 2)
 }
 
 // Whether these are the 256 zeros and ones of a FIB with a good CRC.
@@ -129,6 +90,6 @@ pub fn check_crc_bits(bits: &[u8]) -> bool
     if !are_bits(bits) {
         return false;
     }
-    let word = 0xffff - crc_bits(&bits[0..240]);
-    word == word_of(&bits[240..256])
+    let (covered, sent) = bits.split_at(240);
+    !crc_bits(covered) == word_of(sent)
 }
