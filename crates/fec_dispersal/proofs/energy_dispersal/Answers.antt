@@ -1,6 +1,6 @@
 -- `fec_dispersal::energy_dispersal` meets its contract, by what its loop keeps.
 -- Assumes nothing.
-use mathlib.Core.Path.{◌≡◌, sym, ap, ap₂, ◌∙◌}
+use mathlib.Core.Path.{sym, ap, ap₂, ◌∙◌}
 use Prim.Native.Nat.{ℕ, ◌+◌, ◌*◌, ◌/◌, ◌%◌}
 use native.Mathlib.Omega.{arith}
 use lib.Bits.{bit_xor}
@@ -14,31 +14,27 @@ use Rattle.fec_dispersal.proofs.energy_dispersal.Goals as goal
 abbrev xored : ℕ → ℕ → ℕ
 xored n x = bit_xor x (prbs n)
 
-pub loop-i-init : goal.loop-i-init
-loop-i-init c = record { inside = omega arith; register = register-start; changed = changed_none 0 xored _ }
-
-pub next_bit-bit-requires : goal.next_bit-bit-requires
-next_bit-bit-requires c = omega (arith, register-lt c.loop-i.i)
+pub loop-value-init : goal.loop-value-init
+loop-value-init c = record { register = register-start; changed = changed_none 0 xored _ }
 
 pub overflow_mul-reg : goal.overflow_mul-reg
-overflow_mul-reg c = omega (arith, register-lt c.loop-i.i)
+overflow_mul-reg c = omega (arith, register-lt c.loop-value.value-index)
 
 pub overflow_add-reg : goal.overflow_add-reg
-overflow_add-reg c = omega (arith, register-lt c.loop-i.i)
+overflow_add-reg c = omega (arith, register-lt c.loop-value.value-index)
 
-pub loop-i-preserved : goal.loop-i-preserved
-loop-i-preserved c =
-    let i = c.loop-i.i in
-    let v = c.loop-i.invariant in
-    let bit : c.next_bit-bit.result ≡ prbs i = c.next_bit-bit.ensures ∙ ap (λ (r : ℕ). (r / 256 + r / 16) % 2) v.register ∙ register_bit i in
+pub loop-value-preserved : goal.loop-value-preserved
+loop-value-preserved c =
+    let i = c.loop-value.value-index in
+    let v = c.loop-value.invariant in
+    let bit = ap (λ (r : ℕ). (r / 256 + r / 16) % 2) v.register ∙ register_bit i in
     record {
-      inside = omega arith;
       register = ap₂ (λ (r p : ℕ). (2 * r + p) % 512) v.register bit ∙ register_next i;
-      changed = changed_next 0 xored _ i c.loop-i.bits c.mixed.result (omega arith) (c.mixed.ensures ∙ ap (bit_xor (get_or c.loop-i.bits i 0)) bit) v.changed;
+      changed = changed_next 0 xored _ i c.loop-value.bits _ (omega arith) (ap (bit_xor (get_or c.loop-value.bits i 0)) bit) v.changed;
     }
 
 pub returns : goal.returns
 returns c =
     let old = c.args.bits.now in
-    let v = c.loop-i.invariant.changed in
-    ext_get_or 0 c.loop-i.bits (disperse old) (v.long ∙ sym (disperse-length old)) (λ k l. v.done k (omega arith) ∙ sym (disperse-at old k (omega arith)))
+    let v = c.loop-value.invariant.changed in
+    ext_get_or 0 c.loop-value.bits (disperse old) (v.long ∙ sym (disperse-length old)) (λ k l. v.done k (omega arith) ∙ sym (disperse-at old k (omega arith)))
