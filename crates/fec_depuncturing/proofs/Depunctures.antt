@@ -14,12 +14,10 @@ use Rattle.laws.proofs.Lists.{sets_front}
 use Rattle.spec_en300401.specs.Puncturing.{Region, mask, depuncture}
 use Rattle.spec_en300401.proofs.Puncturing.{Usable, length-depuncture}
 use Rattle.refusal.specs.declared.Refusal.{Refusal}
-use Rattle.refusal.specs.Outcome.{Outcome, refuses, outcome, unless_refused, check, or_else}
+use Rattle.std.specs.Prelude.{Result, Ok, Err}
+use Rattle.refusal.specs.Outcome.{Outcome, refuses, outcome, unless_refused, check, or_else, numbered, told}
 use Rattle.refusal.proofs.Laws.{or_else-zero, first-refused}
 use Rattle.fec_protection.specs.declared.Description.{Description}
-use Rattle.fec_protection.specs.declared.Judged.{Judged}
-use Rattle.fec_protection.specs.declared.Judged.TheVariants.{«Accepted» as judged-accepted, «Refused» as judged-refused}
-use Rattle.fec_protection.specs.Answers.{judged_as}
 use Rattle.fec_protection.specs.Code.{regions_in}
 use Rattle.fec_protection.specs.Params.{params_of}
 use Rattle.fec_depuncturing.specs.Promises.{msc_refusal_of, DepuncturePromise, DepuncturedMsc}
@@ -38,9 +36,9 @@ msc_split d long = ap (or_else (refusal_of d)) (or_else-zero (check 8 (ltb long 
 pub params_fillable : (rs : List Region) → Usable rs → (long : ℕ) → length (mask rs) ≤ long → Fillable (params_of rs) long
 params_fillable rs u long h = record { vectors = params_vectors rs u; fits = omega (arith, mother_by rs u) }
 
-module _ {n need : ℕ} {profile : List Region} {soft before after : List ℤ} {r : Judged} where
+module _ {n need : ℕ} {profile : List Region} {soft before after : List ℤ} {r : Result (Unit {0}) Refusal} where
   -- refused by k: nothing changed
-  pub fill_refused : (k : ℕ) → 0 < k → n ≡ k → judged_as r ≡ outcome k tt → after ≡ before → DepuncturePromise n need profile soft before after r
+  pub fill_refused : (k : ℕ) → 0 < k → n ≡ k → told r ≡ outcome k tt → after ≡ before → DepuncturePromise n need profile soft before after r
   fill_refused zero h e a p = absurd (omega arith)
   fill_refused (suc k) h e a p =
       record {
@@ -49,10 +47,10 @@ module _ {n need : ℕ} {profile : List Region} {soft before after : List ℤ} {
       }
 
   -- accepted: the code's params of the profile were filled in from the front
-  pub fill_given : n ≡ 0 → r ≡ judged-accepted → Usable profile → length (mask profile) ≡ need → need ≤ length before → after ≡ sets before 0 (depuncture (mask (regions_in (params_of profile))) soft) → DepuncturePromise n need profile soft before after r
+  pub fill_given : n ≡ 0 → r ≡ Ok tt → Usable profile → length (mask profile) ≡ need → need ≤ length before → after ≡ sets before 0 (depuncture (mask (regions_in (params_of profile))) soft) → DepuncturePromise n need profile soft before after r
   fill_given e a u l h p =
       record {
-        answer = ap judged_as a ∙ ap (λ (m : ℕ). outcome m tt) (sym e);
+        answer = ap told a ∙ ap (λ (m : ℕ). outcome m tt) (sym e);
         places =
             p ∙ ap (λ (ks : List Bool). sets before 0 (depuncture ks soft)) (mask_by profile u)
             ∙ sets_front (depuncture (mask profile) soft) before (omega (arith, length-depuncture (mask profile) soft))
@@ -62,17 +60,17 @@ module _ {n need : ℕ} {profile : List Region} {soft before after : List ℤ} {
 
 module _ (d : Description) (soft before : List ℤ) where
   -- refused by 1 to 7
-  pub msc_refused : (x : Refusal) {j : Judged} → JudgePromise d j → j ≡ judged-refused x → DepuncturedMsc d soft before before (judged-refused x)
+  pub msc_refused : (x : Refusal) {j : Result (Unit {0}) Refusal} → JudgePromise d j → j ≡ Err x → DepuncturedMsc d soft before before (Err x)
   msc_refused x {j} e q =
       record {
-        answer = first-refused (refusal_of d) (check 8 (ltb (length before) (depunctured_length d))) tt tt x.number r ∙ ap (λ (m : ℕ). outcome m tt) (sym (msc_split d (length before)));
+        answer = first-refused (refusal_of d) (check 8 (ltb (length before) (depunctured_length d))) tt tt (numbered x) r ∙ ap (λ (m : ℕ). outcome m tt) (sym (msc_split d (length before)));
         places = still (refusal_of d) r ∙ ap (λ (m : ℕ). unless_refused m (depuncture (mask (profile_of d)) soft ++ drop (depunctured_length d) before) before) (sym (msc_split d (length before)));
       }
     where
-      r : ◌≡◌ {A = Outcome (Unit {0})} (refuses x.number) (outcome (refusal_of d) tt)
-      r = sym (refused-from d e (ap judged_as q))
+      r : ◌≡◌ {A = Outcome (Unit {0})} (refuses (numbered x)) (outcome (refusal_of d) tt)
+      r = sym (refused-from d e (ap told q))
 
-      still : (n : ℕ) → ◌≡◌ {A = Outcome (Unit {0})} (refuses x.number) (outcome n tt) → before ≡ unless_refused (or_else n (check 8 (ltb (length before) (depunctured_length d)))) (depuncture (mask (profile_of d)) soft ++ drop (depunctured_length d) before) before
+      still : (n : ℕ) → ◌≡◌ {A = Outcome (Unit {0})} (refuses (numbered x)) (outcome n tt) → before ≡ unless_refused (or_else n (check 8 (ltb (length before) (depunctured_length d)))) (depuncture (mask (profile_of d)) soft ++ drop (depunctured_length d) before) before
       still zero w = let z : ◌≡◌ {A = ℕ} 0 1 = cc in absurd (omega arith)
       still (suc n) w = refl
 

@@ -17,6 +17,7 @@ use Rattle.laws.proofs.Lists.{sets_append, count-append, count-le}
 use Rattle.spec_en300401.specs.Puncturing.{depuncture, region_mask, tail_mask, mask}
 use Rattle.spec_en300401.proofs.Puncturing.{depuncture-append, length-depuncture, depuncture-one, length-region}
 use Rattle.fec_profiles.specs.Rows.{bits}
+use Rattle.fec_profiles.specs.declared.Section.{Section}
 use Rattle.fec_protection.specs.declared.ProtectionParams.{ProtectionParams}
 use Rattle.fec_protection.specs.Code.{region, region_in, regions_in}
 use Rattle.fec_depuncturing.specs.Code.{flag, flags, Runs}
@@ -82,8 +83,8 @@ pub record Upto (ks : List Bool) (soft before after : List ℤ) (next end : ℕ)
   pub long : length ks ≡ end
 
 module _ {soft a b : List ℤ} {n : ℕ} where
-  pub upto_first : (blocks pi : ℕ) → Runs (region_mask (region blocks pi)) soft 0 0 a b n → Upto (region_mask (region blocks pi)) soft a b n (128 * blocks)
-  upto_first blocks pi r = record { runs = r; long = length-region (region blocks pi) }
+  pub upto_first : (s : Section) → Runs (region_mask (region s)) soft 0 0 a b n → Upto (region_mask (region s)) soft a b n (128 * s.blocks)
+  upto_first s r = record { runs = r; long = length-region (region s) }
 
   module _ {ks : List Bool} {end : ℕ} (u : Upto ks soft a b n end) where
     pub upto_used : n ≤ end
@@ -95,8 +96,8 @@ module _ {soft a b : List ℤ} {n : ℕ} where
     pub upto_next : {c : List ℤ} {m : ℕ} (ls : List Bool) (k : ℕ) → length ls ≡ k → Runs ls soft n end b c m → Upto (ks ++ ls) soft a c m (end + k)
     upto_next ls k e r = record { runs = runs_append u.runs (sym u.long ∙ sym (zero-add (length ks))) r; long = length-append ks ls ∙ ap₂ (λ (i j : ℕ). i + j) u.long e }
 
-    pub upto_region : {c : List ℤ} {m : ℕ} (blocks pi : ℕ) → Runs (region_mask (region blocks pi)) soft n end b c m → Upto (ks ++ region_mask (region blocks pi)) soft a c m (end + 128 * blocks)
-    upto_region blocks pi r = upto_next (region_mask (region blocks pi)) (128 * blocks) (length-region (region blocks pi)) r
+    pub upto_region : {c : List ℤ} {m : ℕ} (s : Section) → Runs (region_mask (region s)) soft n end b c m → Upto (ks ++ region_mask (region s)) soft a c m (end + 128 * s.blocks)
+    upto_region s r = upto_next (region_mask (region s)) (128 * s.blocks) (length-region (region s)) r
 
 -- the regions and the tail, one after the other, are the profile's mask
 abbrev pub masks1 : ProtectionParams → List Bool

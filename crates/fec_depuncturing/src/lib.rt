@@ -10,7 +10,8 @@ ghost use Rattle.fec_protection.specs.Code.{region, regions_in};
 ghost use Rattle.fec_depuncturing.specs.Code.{flag, flags, Fillable, Runs};
 ghost use Rattle.fec_depuncturing.specs.Promises.{DepuncturedMsc, DepuncturedFic};
 
-use fec_protection::{Description, Judged, ProtectionParams};
+use fec_profiles::Section;
+use fec_protection::{Description, ProtectionParams};
 use refusal::Refusal;
 
 // The next value where the place is kept, 0 where it is not or the input has ended.
@@ -52,22 +53,15 @@ fn fill(soft: &[i8], read: usize, kept: &[u8], out: &mut [i8], from: usize) -> u
 }
 
 // Fills a region: four sub-blocks of 32 for each block. An empty one is skipped.
-fn fill_region(
-    soft: &[i8],
-    read: usize,
-    blocks: usize,
-    pi: usize,
-    out: &mut [i8],
-    from: usize,
-) -> usize
-    requires { (read ≤ from) × (from + 128 * blocks ≤ length out.old) × (0 < blocks → pi < 24) }
-    ensures { Runs (region_mask (region blocks pi)) soft.now read from out.old out.new result }
+fn fill_region(soft: &[i8], read: usize, section: Section, out: &mut [i8], from: usize) -> usize
+    requires { (read ≤ from) × (from + 128 * section.blocks ≤ length out.old) × (0 < section.blocks → section.pi < 24) }
+    ensures { Runs (region_mask (region section)) soft.now read from out.old out.new result }
 {
-    if blocks == 0 {
+    if section.blocks == 0 {
         return read;
     }
-    let v = fec_profiles::vector_of(pi);
-    let n = 4 * blocks;
+    let v = fec_profiles::vector_of(section.pi);
+    let n = 4 * section.blocks;
     let mut next = read;
     let mut i: usize = 0;
     while i < n {
@@ -82,50 +76,49 @@ fn fill_profile(soft: &[i8], p: ProtectionParams, out: &mut [i8])
     requires { Fillable p (length out.old) }
     ensures { out.new ≡ sets out.old 0 (depuncture (mask (regions_in p)) soft.now) }
 {
-    let b = p.blocks;
-    let v = p.pi;
-    let at1 = 128 * b[0];
-    let at2 = at1 + 128 * b[1];
-    let at3 = at2 + 128 * b[2];
-    let at4 = at3 + 128 * b[3];
-    let read1 = fill_region(soft, 0, b[0], v[0], out, 0);
-    let read2 = fill_region(soft, read1, b[1], v[1], out, at1);
-    let read3 = fill_region(soft, read2, b[2], v[2], out, at2);
-    let read4 = fill_region(soft, read3, b[3], v[3], out, at3);
+    let [a, b, c, d] = p.sections;
+    let at1 = 128 * a.blocks;
+    let at2 = at1 + 128 * b.blocks;
+    let at3 = at2 + 128 * c.blocks;
+    let at4 = at3 + 128 * d.blocks;
+    let read1 = fill_region(soft, 0, a, out, 0);
+    let read2 = fill_region(soft, read1, b, out, at1);
+    let read3 = fill_region(soft, read2, c, out, at2);
+    let read4 = fill_region(soft, read3, d, out, at3);
     let tail = fec_profiles::tail();
     fill(soft, read4, &tail, out, at4);
 }
 
 // Depunctures a sub-channel's values into the front of `out`, as its description says: refusals 1 to 7, then 8.
-pub fn depuncture_msc(soft: &[i8], d: Description, out: &mut [i8]) -> Judged
+pub fn depuncture_msc(soft: &[i8], d: Description, out: &mut [i8]) -> Result<(), Refusal>
     ensures { DepuncturedMsc d soft.now out.old out.new result }
 {
-    let judged = fec_protection::judge(d);
-    match judged {
-        Judged::Refused(r) => Judged::Refused(r),
-        Judged::Accepted => {
-            if out.len() < 96 * (d.bitrate as usize) + 24 {
-                return Judged::Refused(Refusal { number: 8 });
-            }
-            let found = fec_protection::protection_params(d);
-            let params = found.params;
-            fill_profile(soft, params, out);
-            Judged::Accepted
-        }
+    fec_protection::judge(d)?;
+    if out.len() < 96 * usize::from(d.bitrate) + 24 {
+        return Err(Refusal::ShortBuffer);
     }
+    let params = fec_protection::protection_params(d)?;
+    fill_profile(soft, params, out);
+    Ok(())
 }
 
+// The FIC's profile: 21 blocks of PI 16, 3 of PI 15.
+const FIC: ProtectionParams = ProtectionParams {
+    sections: [
+        Section { blocks: 21, pi: 15 },
+        Section { blocks: 3, pi: 14 },
+        Section { blocks: 0, pi: 24 },
+        Section { blocks: 0, pi: 24 },
+    ],
+};
+
 // Depunctures a block of the FIC into the front of `out`: refusal 8.
-pub fn depuncture_fic(soft: &[i8], out: &mut [i8]) -> Judged
+pub fn depuncture_fic(soft: &[i8], out: &mut [i8]) -> Result<(), Refusal>
     ensures { DepuncturedFic soft.now out.old out.new result }
 {
     if out.len() < 3096 {
-        return Judged::Refused(Refusal { number: 8 });
+        return Err(Refusal::ShortBuffer);
     }
-    let params = ProtectionParams {
-        blocks: [21, 3, 0, 0],
-        pi: [15, 14, 24, 24],
-    };
-    fill_profile(soft, params, out);
-    Judged::Accepted
+    fill_profile(soft, FIC, out);
+    Ok(())
 }

@@ -21,7 +21,7 @@ use Rattle.refusal.specs.Outcome.{gives, outcome, check, first_of}
 use Rattle.fec_protection.specs.declared.TheConstants.{EEP_LEVELS}
 use Rattle.fec_protection.specs.declared.EepLevel.{EepLevel}
 use Rattle.fec_protection.specs.declared.ProtectionParams.{ProtectionParams}
-use Rattle.fec_protection.specs.Code.{level_row, no_section}
+use Rattle.fec_protection.specs.Code.{level_row, empty}
 use Rattle.fec_protection.specs.Params.{params_of}
 use Rattle.fec_protection.specs.Refusals.{is_none, eep_row, uep_none}
 use Rattle.fec_protection.specs.Promises.{RowPromise}
@@ -82,13 +82,13 @@ module _ (o l rate : ℕ) where
     unfolding eep_profile
     second-small s = omega (arith, second_is, ((eep_usable rate s o l).each 1).short)
 
-    pub eep_made : 3 ≤ row.fold1 * n → ◌≡◌ {A = ProtectionParams} (record { sections = record { blocks = row.fold1 * n - 3; pi = row.pi1 } ∷ record { blocks = row.fold2 * n + 3; pi = row.pi2 } ∷ no_section ∷ no_section ∷ [] }) (params_of (eep_profile o l rate))
+    pub eep_made : 3 ≤ row.fold1 * n → ◌≡◌ {A = ProtectionParams} (record { sections = record { blocks = row.fold1 * n - 3; pi = row.pi1 } ∷ record { blocks = row.fold2 * n + 3; pi = row.pi2 } ∷ empty ∷ empty ∷ [] }) (params_of (eep_profile o l rate))
     unfolding sections_of eep_profile index level_row
     eep_made h =
         let m : 3 < first o l rate = first-blocks o l rate (omega (arith, first-is)) in
         let p : eqb (first o l rate - 3) 0 ≡ false = ne_eqb (first o l rate - 3) 0 (λ z. omega arith) in
         let q : eqb ((level_of o l).fold2 * (rate / unit o) + 3) 0 ≡ false = ne_eqb ((level_of o l).fold2 * (rate / unit o) + 3) 0 (λ z. omega arith) in
-        rw (p, q) (λ i. record { sections = record { blocks = first-is i - 3; pi = (e i).pi1 } ∷ record { blocks = second_is i + 3; pi = (e i).pi2 } ∷ no_section ∷ no_section ∷ [] })
+        rw (p, q) (λ i. record { sections = record { blocks = first-is i - 3; pi = (e i).pi1 } ∷ record { blocks = second_is i + 3; pi = (e i).pi2 } ∷ empty ∷ empty ∷ [] })
 
 abbrev none_found : Perhaps UepProfile
 none_found = None

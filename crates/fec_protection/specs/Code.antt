@@ -10,9 +10,12 @@ use Rattle.fec_protection.specs.declared.ProtectionParams.{ProtectionParams}
 unfoldable pub level_row : ℕ → ℕ → EepLevel
 level_row o l = record { fold1 = (level_of o l).fold1; fold2 = (level_of o l).fold2; pi1 = (level_of o l).pi1 - 1; pi2 = (level_of o l).pi2 - 1 }
 
--- an empty region, and the i-th of four
+-- an empty region, and what stands beyond the four
+abbrev pub empty : Section
+empty = record { blocks = 0; pi = 24 }
+
 abbrev pub no_section : Section
-no_section = record { blocks = 0; pi = 24 }
+no_section = record { blocks = 0; pi = 0 }
 
 abbrev pub section_in : ProtectionParams → ℕ → Section
 section_in p i = get_or p.sections i no_section

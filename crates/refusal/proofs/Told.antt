@@ -63,3 +63,10 @@ module _ {A : Type 0} where
   pub residual : (r : Result A Refusal) (x : Refusal) → IsErrAnd r (λ y. y ≡ x) → r ≡ Err x
   residual (Ok a) x e = absurd e
   residual (Err y) x e = ap Err e
+
+  -- what was given is one, and is no refusal
+  pub ok_same : {r : Result A Refusal} {a b : A} → r ≡ Ok a → r ≡ Ok b → a ≡ b
+  ok_same e f = cc
+
+  pub ok_not_err : {r : Result A Refusal} {a : A} {x : Refusal} → r ≡ Ok a → r ≡ Err x → ⊥
+  ok_not_err e f = let z : ◌≡◌ {A = ℕ} 0 1 = cc in omega (arith, z)

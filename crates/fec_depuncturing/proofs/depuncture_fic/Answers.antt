@@ -2,14 +2,13 @@
 use Rattle.std.proofs.Common.{refl, ap, length}
 use borrow.Author.Tests.{le-ltb}
 use Rattle.spec_en300401.proofs.Puncturing.{fic_usable, fic-length}
-use Rattle.fec_profiles.specs.Rows.{index}
+use Rattle.fec_profiles.specs.Rows.{index, sections_of}
 use Rattle.refusal.specs.Outcome.{check}
-use Rattle.fec_protection.specs.Params.{params_of}
 use Rattle.fec_depuncturing.proofs.Depunctures.{fill_given}
 use Rattle.fec_depuncturing.proofs.depuncture_fic.Goals as goal
 
 pub returns : goal.returns
-unfolding params_of index
+unfolding sections_of index
 returns c =
     let h = c.if-out-lt3096.false in
     fill_given (ap (check 8) (le-ltb (length c.args.out.now) 3096 h)) refl fic_usable fic-length h c.fill_profile.ensures

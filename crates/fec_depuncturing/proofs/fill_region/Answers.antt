@@ -14,21 +14,21 @@ use Rattle.fec_depuncturing.proofs.fill_region.Goals as goal
 long_of : (n pi : ℕ) → length (copies n (vector (pi + 1))) ≡ n * 32
 long_of n pi = length-copies n (vector (pi + 1)) ∙ ap (λ (m : ℕ). n * m) (length-vector (pi + 1))
 
-pub returns-then-blocks-eq0 : goal.returns-then-blocks-eq0
+pub returns-then-section-eq0 : goal.returns-then-section-eq0
 unfolding region_mask
-returns-then-blocks-eq0 c =
+returns-then-section-eq0 c =
     let a = c.args in
-    let e : a.blocks * 4 ≡ 0 = omega arith in
-    rw (e, copies-zero (vector (a.pi + 1))) (runs_none a.read a.from a.out.now)
+    let e : a.section.blocks * 4 ≡ 0 = omega arith in
+    rw (e, copies-zero (vector (a.section.pi + 1))) (runs_none a.read a.from a.out.now)
 
 pub loop-i-init : goal.loop-i-init
 unfolding vector_at
 loop-i-init c =
     let a = c.args in
-    let h : 0 < a.blocks = omega (arith, c.if-blocks-eq0.false) in
-    let e : flags c.vector_of-v.result ≡ vector_at a.pi = ap flags c.vector_of-v.ensures ∙ flags_of_bits (vector_at a.pi) in
+    let h : 0 < a.section.blocks = omega (arith, c.if-section-eq0.false) in
+    let e : flags c.vector_of-v.result ≡ vector_at a.section.pi = ap flags c.vector_of-v.ensures ∙ flags_of_bits (vector_at a.section.pi) in
     record {
-      mask = rw (lt-ltb a.pi 24 (c.requires.2 h)) at e;
+      mask = rw (lt-ltb a.section.pi 24 (c.requires.2 h)) at e;
       long = search rules;
       count = refl;
       upto = omega arith;
@@ -40,14 +40,14 @@ fill-next-requires c =
     let l = c.loop-i in
     let u = runs_used l.invariant.runs in
     let k = runs_length l.invariant.runs in
-    let v = long_of l.i c.args.pi in
+    let v = long_of l.i c.args.section.pi in
     (omega arith, omega arith)
 
 pub loop-i-preserved : goal.loop-i-preserved
 loop-i-preserved c =
     let l = c.loop-i in
-    let ks = vector (c.args.pi + 1) in
-    let e : c.args.from + 32 * l.i ≡ c.args.from + length (copies l.i ks) = omega (arith, long_of l.i c.args.pi) in
+    let ks = vector (c.args.section.pi + 1) in
+    let e : c.args.from + 32 * l.i ≡ c.args.from + length (copies l.i ks) = omega (arith, long_of l.i c.args.section.pi) in
     record {
       mask = l.invariant.mask;
       long = l.invariant.long;
@@ -60,5 +60,5 @@ pub returns : goal.returns
 unfolding region_mask
 returns c =
     let l = c.loop-i in
-    let e : c.args.blocks * 4 ≡ l.i = omega arith in
+    let e : c.args.section.blocks * 4 ≡ l.i = omega arith in
     rw e l.invariant.runs

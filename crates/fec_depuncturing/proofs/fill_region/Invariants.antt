@@ -8,11 +8,11 @@ use Rattle.fec_depuncturing.proofs.fill_region.Given as goal
 abbrev pub invariant-loop-i : goal.invariant-loop-i
 invariant-loop-i l =
     record {
-      mask : flags l.v ≡ vector (l.pi + 1);
+      mask : flags l.v ≡ vector (l.fn.section.pi + 1);
       long : length l.v ≡ 32;
-      count : l.n ≡ 4 * l.blocks;
+      count : l.n ≡ 4 * l.fn.section.blocks;
       upto : l.i ≤ l.n;
-      runs : Runs (copies l.i (vector (l.pi + 1))) l.soft l.read l.from l.fn.out l.out l.next;
+      runs : Runs (copies l.i (vector (l.fn.section.pi + 1))) l.soft l.read l.from l.fn.out l.out l.next;
     }
 
 abbrev pub decreases-loop-i : goal.decreases-loop-i
