@@ -1,5 +1,5 @@
 -- The form of a record (compare/README.md): numbers are low byte first, and a byte that is not there is 0.
-use Rattle.std.specs.Prelude.{◌≡◌, cond, not, List, ℕ, ◌+◌, ◌*◌, ◌≤◌, min, eqb, ltb, length, get_or, take, drop, set}
+use Rattle.std.specs.Prelude.{◌≡◌, not, List, ℕ, ◌+◌, ◌*◌, ◌≤◌, eqb, length, get_or, take, drop}
 use Rattle.fec_protection.specs.declared.Description.{Description}
 
 abbrev pub pair_at : List ℕ → ℕ → ℕ
@@ -11,10 +11,6 @@ word_of xs = pair_at xs 0 + 65536 * pair_at xs 2
 -- start, size and bit rate in two bytes each, then level, option and 1 for EEP or 0
 abbrev pub description_of : List ℕ → Description
 description_of xs = record { start_addr = pair_at xs 0; sub_size = pair_at xs 2; bitrate = pair_at xs 4; protection_level = get_or xs 6 0; eep_option = get_or xs 7 0; is_eep = not (eqb (get_or xs 8 0) 0) }
-
--- one more at one of sixteen places, held at the largest; as they were where there is no such place
-abbrev pub counted : List ℕ → ℕ → List ℕ
-counted xs k = cond (ltb k 16) (set xs k (min (get_or xs k 0 + 1) 18446744073709551615)) xs
 
 -- what reading a part leaves: n bytes came, no more than a length of two bytes can say, and beyond 65,535 the buffer is as it was
 pub record Part (old : List ℕ) (n : ℕ) (new : List ℕ) : Type 0 where

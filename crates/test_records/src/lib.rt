@@ -2,43 +2,18 @@
 // and its bytes; compare/README.md has the kinds. What is read comes from outside, so a promise on it gives its bounds.
 #![tactic(auto)]
 
-ghost use Rattle.std.specs.Prelude.{◌≡◌, ◌+◌, ◌*◌, ◌≤◌, min, length, get_or};
-ghost use Rattle.test_records.specs.Records.{pair_at, word_of, description_of, counted, Part};
+ghost use Rattle.std.specs.Prelude.{◌≡◌, ◌≤◌, ◌<◌, get_or, IfSome};
+ghost use Rattle.test_records.specs.Records.{pair_at, word_of, description_of, Part};
+ghost use Rattle.test_records.specs.Tally.{counted, nothing_counted, Tallied};
 
 use fec_protection::Description;
+use std::fmt;
 use std::io::Read;
-
-fn least(a: usize, b: usize) -> usize
-    ensures { result ≡ min a b }
-{
-    if a < b { a } else { b }
-}
-
-fn wide(x: u8) -> u16
-    ensures { result ≡ x }
-{
-    x as u16
-}
-
-fn wider(x: u16) -> u32
-    ensures { result ≡ x }
-{
-    x as u32
-}
-
-fn number(x: u8) -> usize
-    ensures { result ≤ 255 }
-{
-    x as usize
-}
 
 fn byte_at(bytes: &[u8], i: usize) -> u8
     ensures { result ≡ get_or bytes.now i 0 }
 {
-    if i < bytes.len() {
-        return bytes[i];
-    }
-    0
+    bytes.get(i).copied().unwrap_or(0)
 }
 
 // The number of two bytes from one on. A byte that is not there is 0, here and below.
@@ -48,14 +23,19 @@ pub fn pair_at(bytes: &[u8], i: usize) -> u16
     if bytes.len() <= i {
         return 0;
     }
-    wide(byte_at(bytes, i)) + 256 * wide(byte_at(bytes, i + 1))
+    u16::from_le_bytes([byte_at(bytes, i), byte_at(bytes, i + 1)])
 }
 
 // The number of the first four bytes.
 pub fn word(bytes: &[u8]) -> u32
     ensures { result ≡ word_of bytes.now }
 {
-    wider(pair_at(bytes, 0)) + 65536 * wider(pair_at(bytes, 2))
+    u32::from_le_bytes([
+        byte_at(bytes, 0),
+        byte_at(bytes, 1),
+        byte_at(bytes, 2),
+        byte_at(bytes, 3),
+    ])
 }
 
 // The description in the first nine bytes.
@@ -72,51 +52,104 @@ pub fn description(bytes: &[u8]) -> Description
     }
 }
 
-// The kind of the next record; 0 where there is none.
-pub fn read_kind<R: Read>(input: &mut R) -> usize
-    ensures { result ≤ 255 }
+// The kind of the next record; none at a 0 or where the input ends, and there the records end.
+pub fn read_kind<R: Read>(input: &mut R) -> Option<u8>
+    ensures { IfSome result (λ kind. 0 < kind) }
 {
-    let mut one = [0u8; 1];
-    let (got, _) = byte_streams::read_full(input, &mut one);
-    if got < 1 {
-        return 0;
+    let mut one = [0; 1];
+    match byte_streams::read_full(input, &mut one) {
+        (1, _) if one[0] > 0 => Some(one[0]),
+        _ => None,
     }
-    number(one[0])
 }
 
 // A length; 0 where the input has ended.
-fn read_length<R: Read>(input: &mut R) -> usize
-    ensures { result ≤ 65535 }
-{
-    let mut two = [0u8; 2];
-    let (got, _) = byte_streams::read_full(input, &mut two);
-    if got < 2 {
-        return 0;
+fn read_length<R: Read>(input: &mut R) -> u16 {
+    let mut two = [0; 2];
+    match byte_streams::read_full(input, &mut two) {
+        (2, _) => u16::from_le_bytes(two),
+        _ => 0,
     }
-    pair_at(&two, 0) as usize
 }
 
 // A length and its bytes, put at the start of the buffer as far as it reaches: how many came.
 pub fn read_part<R: Read>(input: &mut R, buf: &mut [u8]) -> usize
     ensures { Part buf.old result buf.new }
 {
-    let n = least(read_length(input), buf.len());
+    let n = usize::from(read_length(input)).min(buf.len());
     let (got, _) = byte_streams::read_full(input, &mut buf[..n]);
     got
 }
 
-fn one_more(n: u64) -> u64
-    ensures { result ≡ min (n + 1) 18446744073709551615 }
-{
-    if n < u64::MAX { n + 1 } else { n }
+// How many answers of a kind were as recorded, and how many other; each stays at the largest number.
+#[derive(Clone, Copy)]
+pub struct Count {
+    pub same: u64,
+    pub other: u64,
 }
 
-// Counts one of a kind; a kind that has no place is not counted.
-pub fn count(counts: &mut [u64; 16], kind: usize)
-    ensures { counts.new ≡ counted counts.old kind }
-{
-    if 16 <= kind {
-        return;
+impl fmt::Display for Count {
+    fn fmt<W: fmt::Write>(&self, f: &mut fmt::Formatter<W>) -> fmt::Result {
+        write!(f, "{} same, {} other", self.same, self.other)
     }
-    counts[kind] = one_more(counts[kind]);
+}
+
+// The counts by kind; a kind that has no place is not counted.
+#[derive(Clone, Copy)]
+pub struct Tally {
+    pub counts: [Count; 16],
+}
+
+impl Tally {
+    pub fn new() -> Self
+        ensures { result ≡ nothing_counted }
+    {
+        Tally {
+            counts: [Count { same: 0, other: 0 }; 16],
+        }
+    }
+
+    pub fn count(&mut self, kind: u8, same: bool)
+        ensures { self.new ≡ counted self.old kind same }
+    {
+        let kind = usize::from(kind);
+        if kind < 16 {
+            let count = &mut self.counts[kind];
+            if same {
+                count.same = count.same.saturating_add(1);
+            } else {
+                count.other = count.other.saturating_add(1);
+            }
+        }
+    }
+
+    // A line for each of these kinds, under its name; a line that cannot be written is passed over.
+    pub fn print(&self, rt: &impl Print, names: &[(usize, &str)]) {
+        for (kind, name) in names {
+            if let Some(count) = self.counts.get(*kind) {
+                let _ = println!(rt; "{name}: {count}");
+            }
+        }
+    }
+}
+
+// Every record: whether the answer is as recorded, the judge says by kind, input and answer.
+pub fn replay_all<R: Read, F: Fn(u8, &mut [u8], &[u8]) -> bool>(records: &mut R, judge: F) -> Tally
+    requires { F.IsAlwaysCallable judge }
+    ensures { Tallied (λ kind same. (input : _) × (answer : _) × (after : _) × F.post judge kind input answer same after) result }
+{
+    let mut tally = Tally::new();
+    let mut input = [0; 65536];
+    let mut answer = [0; 65536];
+    // Nothing says that an input ends.
+    for _ in 0..u64::MAX {
+        let Some(kind) = read_kind(records) else {
+            break;
+        };
+        let n = read_part(records, &mut input);
+        let m = read_part(records, &mut answer);
+        let same = judge(kind, &mut input[..n], &answer[..m]);
+        tally.count(kind, same);
+    }
+    tally
 }

@@ -14,6 +14,6 @@ part_of old came m r filled most inside = record {
 
 pub returns : goal.returns
 returns g c =
-    let most : c.least-n.result ≤ 65535 = omega arith in
-    let filled : length c.read_full-got.new.buf ≡ c.least-n.result = omega (arith, length-take c.least-n.result c.args.buf.now) in
+    let most : c.min-n.result ≤ 65535 = omega arith in
+    let filled : length c.read_full-got.new.buf ≡ c.min-n.result = omega (arith, length-take c.min-n.result c.args.buf.now) in
     part_of _ _ _ _ filled most c.read_full-got.ensures.inside

@@ -1,0 +1,13 @@
+-- Each record counted is one that the judge was asked of.
+use Rattle.std.proofs.Common.{sym, subst}
+use Rattle.test_records.specs.Tally.{Tallied, nothing, one}
+use Rattle.test_records.proofs.replay_all.Goals as goal
+
+pub loop-init : goal.loop-init
+loop-init g c = subst (Tallied _) (sym c.new-tally.ensures) nothing
+
+pub loop-preserved : goal.loop-preserved
+loop-preserved g c = subst (Tallied _) (sym c.count.ensures) (one _ _ _ c.loop.invariant (_, _, _, c.judge-same.ensures))
+
+pub returns : goal.returns
+returns g c = c.loop.invariant
