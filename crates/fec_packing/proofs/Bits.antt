@@ -1,23 +1,23 @@
 -- Laws of values taken as bits.
 -- Assumes nothing.
-use mathlib.Core.Path.{◌≡◌, refl, sym, ap, ◌∙◌, subst}
-use mathlib.Core.List.{List, [], ◌∷◌, ◌++◌, map, map-append}
 use Prim.Native.Nat.{ℕ, zero, suc, ◌+◌, ◌*◌, ◌/◌, ◌^◌, ◌<◌, ◌≤◌}
-use native.Mathlib.Omega.{arith}
-use lib.ListN.{length, get_or, take, drop, length-map, get_or-map}
-use lib.Dec.{eqb}
-use lib.Seq.{drop-drop}
-use lib.Pow.{pow_mono}
-use mathlib.Core.Bool.{Bool, not}
 use borrow.Author.Tests.{ne_eqb}
-use Rattle.std.specs.Simd.{first_chunks}
+use lib.Dec.{eqb}
+use lib.ListN.{length, get_or, take, drop, length-map, get_or-map}
+use lib.Pow.{pow_mono}
+use lib.Seq.{drop-drop}
+use mathlib.Core.Bool.{Bool, not}
+use mathlib.Core.List.{List, [], ◌∷◌, map}
+use mathlib.Core.Path.{◌≡◌, refl, sym, ap, ◌∙◌, subst}
 use mir.Val.{bool_byte}
-use Rattle.laws.specs.Bits.{num_of, AreBits}
-use Rattle.laws.proofs.Bits.{num_snoc, num_lt, below-head, below_tail}
-use Rattle.laws.proofs.Slices.{take_more}
-use Rattle.spec_en300401.specs.Bytes.{bytes_of_bits}
-use Rattle.spec_en300401.proofs.Bytes.{bytes-length, byte_at}
+use native.Mathlib.Omega.{arith}
 use Rattle.fec_packing.specs.Bytes.{as_bit, bytes_of}
+use Rattle.laws.proofs.Bits.{num_snoc, num_lt, below-head, below_tail}
+use Rattle.laws.specs.Bits.{num_of, AreBits}
+use Rattle.spec_en300401.proofs.Bytes.{bytes-length, byte_at}
+use Rattle.spec_en300401.specs.Bytes.{bytes_of_bits}
+use Rattle.std.proofs.lemmas.List.{take-map, drop-map, map_more}
+use Rattle.std.specs.Simd.{first_chunks}
 
 pub as_bit-lt : (v : ℕ) → as_bit v < 2
 unfolding as_bit
@@ -44,11 +44,8 @@ bytes_of-bits xs h = ap bytes_of_bits (as_bits xs h)
 abbrev pub number : List ℕ → ℕ
 number xs = num_of (map as_bit xs)
 
-pub number-snoc : (xs : List ℕ) (v : ℕ) → number (xs ++ (v ∷ [])) ≡ 2 * number xs + as_bit v
-number-snoc xs v = ap num_of (map-append as_bit xs (v ∷ [])) ∙ num_snoc (map as_bit xs) (as_bit v)
-
 pub number_more : (xs : List ℕ) (i : ℕ) → i < length xs → number (take (i + 1) xs) ≡ 2 * number (take i xs) + as_bit (get_or xs i 0)
-number_more xs i h = ap number (take_more 0 xs i h) ∙ number-snoc (take i xs) (get_or xs i 0)
+number_more xs i h = ap num_of (map_more as_bit xs i 0 h) ∙ num_snoc (map as_bit (take i xs)) (as_bit (get_or xs i 0))
 
 -- fewer than eight values
 pub number_small : (xs : List ℕ) → length xs < 8 → number xs < 2 ^ 7
@@ -63,16 +60,6 @@ unfolding as_bit
 flag_is zero = refl
 flag_is (suc v) = ap (λ (t : Bool). bool_byte (not t)) (ne_eqb (suc v) 0 (λ e. omega (arith, e)))
 
-take-map : (n : ℕ) (xs : List ℕ) → take n (map as_bit xs) ≡ map as_bit (take n xs)
-take-map zero xs = refl
-take-map (suc n) [] = refl
-take-map (suc n) (x ∷ xs) = ap (λ (r : List ℕ). as_bit x ∷ r) (take-map n xs)
-
-drop-map : (n : ℕ) (xs : List ℕ) → drop n (map as_bit xs) ≡ map as_bit (drop n xs)
-drop-map zero xs = refl
-drop-map (suc n) [] = refl
-drop-map (suc n) (x ∷ xs) = drop-map n xs
-
 pub bytes_of-length : (xs : List ℕ) → length (bytes_of xs) ≡ length xs / 8
 unfolding bytes_of
 bytes_of-length xs = bytes-length (map as_bit xs) ∙ ap (λ (n : ℕ). n / 8) (length-map xs as_bit)
@@ -80,7 +67,7 @@ bytes_of-length xs = bytes-length (map as_bit xs) ∙ ap (λ (n : ℕ). n / 8) (
 pub bytes_of-at : (xs : List ℕ) (n : ℕ) → n < length xs / 8 → get_or (bytes_of xs) n 0 ≡ number (take 8 (drop (8 * n) xs))
 unfolding bytes_of
 bytes_of-at xs n h =
-    byte_at (map as_bit xs) n (subst (λ (m : ℕ). n < m / 8) (sym (length-map xs as_bit)) h) ∙ ap (λ (ys : List ℕ). num_of (take 8 ys)) (drop-map (8 * n) xs) ∙ ap num_of (take-map 8 (drop (8 * n) xs))
+    byte_at (map as_bit xs) n (subst (λ (m : ℕ). n < m / 8) (sym (length-map xs as_bit)) h) ∙ ap (λ (ys : List ℕ). num_of (take 8 ys)) (drop-map as_bit (8 * n) xs) ∙ ap num_of (take-map as_bit 8 (drop (8 * n) xs))
 
 -- eight values at a time: piece j
 pub eight_at : (k : ℕ) (xs : List ℕ) (j : ℕ) → j < k → get_or (first_chunks 8 k xs) j [] ≡ take 8 (drop (8 * j) xs)
