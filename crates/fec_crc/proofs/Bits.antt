@@ -11,7 +11,7 @@ use Rattle.std.proofs.lemmas.List.Elements.{All-from_get_or}
 use Rattle.std.proofs.lemmas.List.Sums.{AllPass-from_list_all, list_all-from_AllPass}
 use Rattle.laws.specs.Bits.{AreBits, bits_of}
 use Rattle.spec_en300401.specs.Bytes.{bits_of_bytes}
-use Rattle.spec_en300401.specs.Crc.{crc_step, crc_from}
+use Rattle.spec_en300401.specs.Crc.{crc_from}
 use Rattle.spec_en300401.proofs.Crc.{from-append}
 use Rattle.fec_crc.specs.Tests.{all_bits}
 
@@ -21,12 +21,7 @@ all_are xs e = record { each = λ i l. ltb-true _ 2 (AllPass-from_list_all (λ (
 pub are_all : (xs : List ℕ) → AreBits xs → all_bits xs ≡ true
 are_all xs h = list_all-from_AllPass (λ (b : ℕ). ltb b 2) xs (All-from_get_or (λ (b : ℕ). ltb b 2 ≡ true) xs 0 (λ i l. lt-ltb _ 2 (h.each i l)))
 
--- one bit after the other, or one byte after the other
-pub over_bits : (r : ℕ) (bs : List ℕ) → fold crc_step r bs ≡ crc_from r bs
-unfolding crc_from
-over_bits r [] = refl
-over_bits r (b ∷ bs) = over_bits (crc_step r b) bs
-
+-- one byte after the other
 pub over_bytes : (r : ℕ) (ys : List ℕ) → fold (λ (q y : ℕ). crc_from q (bits_of 8 y)) r ys ≡ crc_from r (bits_of_bytes ys)
 unfolding crc_from bits_of_bytes
 over_bytes r [] = refl

@@ -1,9 +1,8 @@
 // The CRC of a FIB: the byte test (constants.rs) and the bit test (fic/handler.rs).
 #![tactic(auto)]
 
-ghost use Rattle.std.specs.Prelude.{◌≡◌, ◌*◌, length, fold};
-ghost use Rattle.laws.specs.Bits.{num_of, bits_of, AreBits};
-ghost use Rattle.spec_en300401.specs.Bytes.{bits_of_bytes};
+ghost use Rattle.std.specs.Prelude.{◌≡◌, fold};
+ghost use Rattle.laws.specs.Bits.{bits_of};
 ghost use Rattle.spec_en300401.specs.Crc.{crc_step, crc_from};
 ghost use Rattle.fec_crc.specs.Tests.{byte_test, all_bits, bit_test};
 
@@ -43,13 +42,6 @@ fn crc_bytes(bytes: &[u8]) -> u16
     bytes.iter().fold(0xffff, |reg, byte| crc_byte(reg, *byte))
 }
 
-// The register after some bits.
-fn crc_bits(bits: &[u8]) -> u16
-    ensures { result ≡ fold crc_step 0xffff bits.now }
-{
-    bits.iter().fold(0xffff, |reg, bit| crc_step(reg, *bit))
-}
-
 // Whether the first 32 bytes are a FIB with a good CRC.
 pub fn fib_crc_valid(fib: &[u8]) -> bool
     ensures { result ≡ byte_test fib.now }
@@ -59,19 +51,6 @@ pub fn fib_crc_valid(fib: &[u8]) -> bool
     };
     let (covered, sent) = fib.split_at(FIB_LENGTH - FIB_CRC_LENGTH);
     !crc_bytes(covered) == u16::from_be_bytes([sent[0], sent[1]])
-}
-
-// The number with these 16 bits, the high bit first.
-fn word_of(bits: &[u8]) -> u16
-    requires bits_len { length bits.now ≡ 16 }
-    requires are_bits { AreBits bits.now }
-    ensures { result ≡ num_of bits.now }
-{
-    let mut word = 0;
-    for bit in bits {
-        word = word * 2 + u16::from(*bit);
-    }
-    word
 }
 
 fn are_bits(bits: &[u8]) -> bool
@@ -90,6 +69,8 @@ pub fn check_crc_bits(bits: &[u8]) -> bool
     if !are_bits(bits) {
         return false;
     }
-    let (covered, sent) = bits.split_at(240);
-    !crc_bits(covered) == word_of(sent)
+    // 256 bits are the 32 bytes.
+    let mut fib = [0; FIB_LENGTH];
+    fec_packing::pack(bits, &mut fib).unwrap();
+    fib_crc_valid(&fib)
 }
