@@ -4,7 +4,7 @@
 ghost use Rattle.std.specs.Prelude.{◌≡◌};
 ghost use Rattle.fec_branch_outputs.specs.Outputs.{branch_outputs};
 
-// By state, input and output number.
+// By state, input and output number: a constant table, which is document 01's form.
 const BRANCH_OUTPUTS: [[[u8; 4]; 2]; 64] = [
     [[0, 0, 0, 0], [1, 1, 1, 1]], // 0
     [[0, 1, 1, 0], [1, 0, 0, 1]], // 1

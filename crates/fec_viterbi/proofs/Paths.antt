@@ -1,7 +1,6 @@
 -- From the forward pass and the trace back to the best path; and from the parts of the words and the bits that they were given to the whole.
 -- Assumes nothing.
 use mathlib.Core.Path.{◌≡◌, sym, ap, ◌∙◌, subst}
-use mathlib.Core.Bool.{Bool, true, false}
 use mathlib.Core.List.{List, [], ◌++◌, map, reverse, append-nil}
 use Prim.Native.Nat.{ℕ, ◌+◌, ◌^◌, ◌<◌, ◌≤◌}
 use native.Mathlib.Omega.{arith}
@@ -16,21 +15,22 @@ use Rattle.spec_trellis.specs.Trellis.{Ends, Best, bit_n}
 use Rattle.spec_trellis.specs.Program.{survivor, takes_at, start_into, bits_into, Running, Forward, traced}
 use Rattle.spec_trellis.proofs.TrellisProgram.{into_score, zero-best, free_best}
 use Rattle.spec_trellis.proofs.TrellisTrace.{traced-is, took}
-use Rattle.fec_viterbi.specs.Code.{Chosen}
-use Rattle.fec_viterbi.specs.Decoders.{ends_of, Choices, Accepted}
+use Rattle.fec_viterbi.specs.declared.End.{End}
+use Rattle.fec_viterbi.specs.declared.End.TheVariants.{Zero, Free}
+use Rattle.fec_viterbi.specs.Code.{permitted, Chosen}
+use Rattle.fec_viterbi.specs.Decoders.{Choices, Accepted}
 
 module _ (xs : List ℤ) (n : ℕ) (σ : ℕ → ℤ) (r : Running xs n σ) (e : ℕ) (he : e < 64) where
   parts : (u : ℕ) → u < 64 → up (σ u) + (dn (survivor xs n u) + up r.total) ≡ (up (survivor xs n u) + dn r.total) + dn (σ u)
   parts u h = let q = r.each u h in omega (arith, diff (survivor xs n u) r.total, ap up q, ap dn q)
 
   -- the end that the running scores choose is the end of the best permitted path
-  best-at : (free : Bool) → Chosen free σ e → Best xs n (ends_of free) (start_into xs n e) (bits_into xs n e)
-  unfolding Chosen
-  best-at true c =
+  best-at : (end : End) → Chosen end σ e → Best xs n (permitted end) (start_into xs n e) (bits_into xs n e)
+  best-at Free c =
       free_best xs n e he
       (λ u h. parts_le (survivor xs n u) (survivor xs n e) (omega (arith, parts u h, parts e he, le_parts (c.above u h))))
       (λ u l. parts_lt (survivor xs n u) (survivor xs n e) (omega (arith, parts u (omega arith), parts e he, lt_parts (c.first u l))))
-  best-at false c = zero-best xs n e he c
+  best-at Zero c = zero-best xs n e he c
 
 drop_all : (l : List ℕ) (n : ℕ) → length l ≡ n → drop n l ≡ []
 drop_all l n h = drop_of_length-le l {i = n} (omega arith)
@@ -42,12 +42,12 @@ choices {xs} words t w =
       took = λ s h a b bs f. took words h w f;
     }
 
-pub accepted : (free : Bool) (xs : List ℤ) (n : ℕ) (words bits words' bits' : List ℕ) (σ : ℕ → ℤ) (e : ℕ) → length words ≡ n → length bits ≡ n → length words' ≡ length words → Forward xs n σ words' → e < 64 → Chosen free σ e → bits' ≡ traced words' n e → Accepted (ends_of free) xs n words bits (σ e) words' bits'
-accepted free xs n words bits words' bits' σ e lw lb lw' f he c t =
+pub accepted : (end : End) (xs : List ℤ) (n : ℕ) (words bits words' bits' : List ℕ) (σ : ℕ → ℤ) (e : ℕ) → length words ≡ n → length bits ≡ n → length words' ≡ length words → Forward xs n σ words' → e < 64 → Chosen end σ e → bits' ≡ traced words' n e → Accepted (permitted end) xs n words bits (σ e) words' bits'
+accepted end xs n words bits words' bits' σ e lw lb lw' f he c t =
     record {
       start = start_into xs n e;
       path = bits_into xs n e;
-      best = best-at xs n σ f.running e he free c;
+      best = best-at xs n σ f.running e he end c;
       bits_are = t ∙ traced-is xs words' n e he f.words_are ∙ sym (ap (λ (l : List ℕ). path ++ l) (drop_all bits n lb) ∙ append-nil path);
       total = f.running.total;
       subtracted = f.running.subtracted;

@@ -14,11 +14,13 @@ use Rattle.laws.proofs.Words.{bit_lt}
 use Rattle.spec_trellis.specs.Trellis.{bit_n, score_of, Ends}
 use Rattle.spec_trellis.proofs.TrellisOrder.{best_unique}
 use Rattle.spec_trellis.proofs.TrellisSubtracted.{subtracted_unique}
-use Rattle.refusal.specs.Outcome.{gives, outcome}
+use Rattle.std.specs.Prelude.{Result, Ok}
+use Rattle.refusal.specs.Outcome.{outcome, told}
+use Rattle.refusal.specs.declared.Refusal.{Refusal}
 use Rattle.refusal.proofs.Laws.{done_of}
-use Rattle.fec_viterbi.specs.declared.Decoding.{Decoding}
-use Rattle.fec_viterbi.specs.declared.Decoding.TheVariants.{Done, Refused}
-use Rattle.fec_viterbi.specs.Decoders.{steps, decoder_refusal, decoded_as, Accepted, Untouched, Decoded}
+use Rattle.refusal.proofs.Told.{told_one}
+use Rattle.fec_viterbi.specs.declared.Score.{Score}
+use Rattle.fec_viterbi.specs.Decoders.{steps, decoder_refusal, Accepted, Untouched, Decoded}
 use Rattle.fec_viterbi.specs.Result.{Decodes, ChoiceWords}
 use Rattle.fec_viterbi.proofs.Refusals.{no_refusal}
 use Rattle.fec_viterbi.proofs.Unique.{word_unique}
@@ -44,25 +46,21 @@ left_of {ends} {xs} {n} {words} {bits} {m} {words'} {bits'} h a =
     }
 
 -- with as many words and bits as steps, and not too many steps, a decoder is done
-pub record Finished (ends : Ends) (xs : List ℤ) (words bits : List ℕ) (r : Decoding) (words' bits' : List ℕ) : Type 0 where
+pub record Finished (ends : Ends) (xs : List ℤ) (words bits : List ℕ) (r : Result Score Refusal) (words' bits' : List ℕ) : Type 0 where
   pub metric : ℤ
-  pub done_is : r ≡ Done (record { metric = metric })
+  pub done_is : r ≡ Ok (record { metric = metric })
   pub left : Left ends xs (steps xs) words bits metric words' bits'
 
-pub finished : {ends : Ends} {xs : List ℤ} {words bits : List ℕ} (r : Decoding) {words' bits' : List ℕ} → steps xs ≤ 65536 → steps xs ≤ length words → steps xs ≤ length bits → Decoded ends xs words bits (decoded_as r) words' bits' → Finished ends xs words bits r words' bits'
+pub finished : {ends : Ends} {xs : List ℤ} {words bits : List ℕ} (r : Result Score Refusal) {words' bits' : List ℕ} → steps xs ≤ 65536 → steps xs ≤ length words → steps xs ≤ length bits → Decoded ends xs words bits (told r) words' bits' → Finished ends xs words bits r words' bits'
 finished {ends} {xs} {words} {bits} r {words'} {bits'} few w b d =
     record {
       metric = d.metric;
-      done_is = is r (d.answer_is ∙ ap (λ (n : ℕ). outcome n d.metric) none_is);
+      done_is = told_one r (Ok (record { metric = d.metric })) (d.answer_is ∙ ap (λ (n : ℕ). outcome n (record { metric = d.metric })) none_is);
       left = left_of w (done_of (Accepted ends xs (steps xs) words bits d.metric words' bits') (Untouched words bits words' bits') (decoder_refusal (steps xs) (length words) (length bits)) none_is d.buffers_are);
     }
   where
     none_is : decoder_refusal (steps xs) (length words) (length bits) ≡ 0
     none_is = no_refusal (steps xs) (length words) (length bits) few (omega arith)
-
-    is : (r : Decoding) → decoded_as r ≡ gives d.metric → r ≡ Done (record { metric = d.metric })
-    is (Done s) e = ap (λ (z : ℤ). Done (record { metric = z })) (let z : s.metric ≡ d.metric = cc in z)
-    is (Refused k) e = let z : ◌≡◌ {A = ℕ} 0 1 = cc in absurd (omega arith)
 
 -- decoding gives one list of bits, one metric and one list of words
 pub bits-one : {ends : Ends} {xs : List ℤ} {n : ℕ} {bits bits' : List ℕ} {m m' : ℤ} → Decodes ends xs n bits m → Decodes ends xs n bits' m' → bits ≡ bits'

@@ -15,10 +15,9 @@ use Rattle.spec_trellis.specs.Program.{start_into, bits_into}
 use Rattle.spec_trellis.proofs.TrellisOrder.{best_unique}
 use Rattle.spec_trellis.proofs.TrellisProgram.{into-best, into-length}
 use Rattle.spec_trellis.proofs.TrellisSubtracted.{subtracted_unique}
-use Rattle.refusal.specs.Outcome.{gives, outcome, unless_refused}
-use Rattle.fec_viterbi.specs.declared.Decoding.{Decoding}
-use Rattle.fec_viterbi.specs.declared.Decoding.TheVariants.{Done, Refused}
-use Rattle.fec_viterbi.specs.Decoders.{steps, decoder_refusal, decoded_as, Choices, Accepted, Untouched}
+use Rattle.refusal.specs.Outcome.{gives, outcome, unless_refused, told}
+use Rattle.refusal.proofs.Told.{told_one}
+use Rattle.fec_viterbi.specs.Decoders.{steps, decoder_refusal, Choices, Accepted, Untouched}
 use Rattle.fec_viterbi.specs.Theorems.{SameDecoding, DecodedUnique}
 
 -- each state has a best path, so each bit of a word is fixed
@@ -72,15 +71,9 @@ module _ {ends : Ends} {xs : List ℤ} {n : ℕ} {words bits : List ℕ} {m m' :
 pub decoded_unique : DecodedUnique
 decoded_unique ends xs words bits r ws bs r' ws' bs' f g = go (decoder_refusal (steps xs) (length words) (length bits)) f.answer_is g.answer_is f.buffers_are g.buffers_are
   where
-    one : (r r' : Decoding) → decoded_as r ≡ decoded_as r' → r ≡ r'
-    one (Done s) (Done s') e = ap (λ (z : ℤ). Done (record { metric = z })) (let z : s.metric ≡ s'.metric = cc in z)
-    one (Done s) (Refused k) e = let z : ◌≡◌ {A = ℕ} 0 1 = cc in absurd (omega arith)
-    one (Refused k) (Done s) e = let z : ◌≡◌ {A = ℕ} 0 1 = cc in absurd (omega arith)
-    one (Refused k) (Refused k') e = ap (λ (z : ℕ). Refused (record { number = z })) (let z : k.number ≡ k'.number = cc in z)
-
-    go : (n : ℕ) → decoded_as r ≡ outcome n f.metric → decoded_as r' ≡ outcome n g.metric
+    go : (n : ℕ) → told r ≡ outcome n (record { metric = f.metric }) → told r' ≡ outcome n (record { metric = g.metric })
         → unless_refused n (Accepted ends xs (steps xs) words bits f.metric ws bs) (Untouched words bits ws bs) → unless_refused n (Accepted ends xs (steps xs) words bits g.metric ws' bs') (Untouched words bits ws' bs') → SameDecoding r ws bs r' ws' bs'
     go zero a a' x y =
         let same = accepted_unique x y in
-        record { answer_is = one r r' (a ∙ ap gives same.metric_is ∙ sym a'); words_are = same.words_are; bits_are = same.bits_are }
-    go (suc n) a a' x y = record { answer_is = one r r' (a ∙ sym a'); words_are = x.words_are ∙ sym y.words_are; bits_are = x.bits_are ∙ sym y.bits_are }
+        record { answer_is = told_one r r' (a ∙ ap (λ (m : ℤ). gives (record { metric = m })) same.metric_is ∙ sym a'); words_are = same.words_are; bits_are = same.bits_are }
+    go (suc n) a a' x y = record { answer_is = told_one r r' (a ∙ sym a'); words_are = x.words_are ∙ sym y.words_are; bits_are = x.bits_are ∙ sym y.bits_are }

@@ -1,9 +1,9 @@
 -- Document 01, "viterbi.rs" and its table of refusals: what a decoder answers, and what the words and the bits hold after it.
-use Rattle.std.specs.Prelude.{◌≡◌, Bool, true, false, List, [], ◌∷◌, ◌++◌, map, reverse, ℕ, suc, ◌+◌, ◌*◌, ◌/◌, ◌%◌, ◌^◌, ◌<◌, min, ltb, length, get_or, drop, ℤ, pos, ◌-ℤ◌}
+use Rattle.std.specs.Prelude.{◌≡◌, Bool, true, false, List, [], ◌∷◌, ◌++◌, map, reverse, ℕ, suc, ◌+◌, ◌*◌, ◌/◌, ◌%◌, ◌^◌, ◌<◌, min, ltb, length, get_or, drop, Result, Ok, Err, ℤ, pos, ◌-ℤ◌}
 use Rattle.spec_trellis.specs.Trellis.{bit_n, end_of, score_of, Ends, zero_end, free_end, Best, BestInto, Subtracted}
-use Rattle.refusal.specs.Outcome.{Outcome, gives, refuses, outcome, unless_refused, check, first_of}
-use Rattle.fec_viterbi.specs.declared.Decoding.{Decoding}
-use Rattle.fec_viterbi.specs.declared.Decoding.TheVariants.{Done, Refused}
+use Rattle.refusal.specs.Outcome.{Outcome, outcome, unless_refused, check, first_of}
+use Rattle.refusal.specs.declared.Refusal.{Refusal}
+use Rattle.fec_viterbi.specs.declared.Score.{Score}
 
 -- whole steps: four soft values each, and one to three left over are ignored
 abbrev pub steps : List ℤ → ℕ
@@ -13,15 +13,10 @@ steps xs = length xs / 4
 unfoldable pub decoder_refusal : ℕ → ℕ → ℕ → ℕ
 decoder_refusal n words bits = first_of (check 11 (ltb 65536 n) ∷ check 8 (ltb (min words bits) n) ∷ [])
 
--- what each case of the enum says: the metric, or document 01's number
-abbrev pub decoded_as : Decoding → Outcome ℤ
-decoded_as (Done s) = gives s.metric
-decoded_as (Refused r) = refuses r.number
-
--- its metric; 0 where it refused
-abbrev pub metric_of : Decoding → ℤ
-metric_of (Done s) = s.metric
-metric_of (Refused r) = pos 0
+-- an answer's metric; 0 where it refused
+abbrev pub metric_of : Result Score Refusal → ℤ
+metric_of (Ok s) = s.metric
+metric_of (Err r) = pos 0
 
 -- word t: bit s is 1 exactly when the best path of t + 1 steps into s comes from the higher predecessor
 pub record Choices (xs : List ℤ) (t word : ℕ) : Type 0 where
@@ -47,9 +42,9 @@ pub record Untouched (words bits words' bits' : List ℕ) : Type 0 where
   pub bits_are : bits' ≡ bits
 
 -- the promise of a decoder that permits these ends: the metric or the first refusal; and the steps are decoded unless it refused
-pub record Decoded (ends : Ends) (xs : List ℤ) (words bits : List ℕ) (answer : Outcome ℤ) (words' bits' : List ℕ) : Type 0 where
+pub record Decoded (ends : Ends) (xs : List ℤ) (words bits : List ℕ) (answer : Outcome Score) (words' bits' : List ℕ) : Type 0 where
   pub metric : ℤ
-  pub answer_is : answer ≡ outcome (decoder_refusal (steps xs) (length words) (length bits)) metric
+  pub answer_is : answer ≡ outcome (decoder_refusal (steps xs) (length words) (length bits)) (record { metric = metric })
   pub buffers_are : unless_refused (decoder_refusal (steps xs) (length words) (length bits)) (Accepted ends xs (steps xs) words bits metric words' bits') (Untouched words bits words' bits')
 
 -- every end, or state 0 alone

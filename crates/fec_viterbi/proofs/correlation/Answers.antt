@@ -1,56 +1,40 @@
-use Rattle.std.proofs.Common.{◌≡◌, ℕ, ◌/◌, ◌%◌, ◌^◌, ◌<◌, ℤ, ap, ap₂, ◌∙◌, arith, to_z, of_z, to_z-of_z, w32, ◌+ℤ◌, SFits}
-use lib.Signed.{mag}
-use Rattle.laws.proofs.Machine.{back}
+use Rattle.std.proofs.Common.{◌≡◌, ◌≤◌, ◌/◌, ◌%◌, ℤ, nat_abs, ◌+ℤ◌, arith, rules, to_z, of_z, to_z-of_z, ap, ◌∙◌, w8, w32, SFits}
+use Rattle.std.proofs.lemmas.Int.{ints}
+use Rattle.laws.specs.Integers.{at}
 use Rattle.laws.proofs.Integers.{abs_sum}
 use Rattle.spec_trellis.specs.Trellis.{sign_by}
-use Rattle.spec_trellis.proofs.Trellis.{sign_abs}
 use Rattle.fec_viterbi.specs.Code.{correlation_of}
 use Rattle.fec_viterbi.proofs.correlation.Goals as goal
 
--- a call's result, read back from its bits
-signed_is : (o : ℕ) {r v : ℤ} → mag r < 2 ^ 31 → SFits w32 v → r ≡ sign_by o (to_z w32 (of_z w32 v)) → to_z w32 (of_z w32 r) ≡ sign_by o v
-signed_is o ok f e = back w32 ok (e ∙ ap (sign_by o) (to_z-of_z f))
+-- a sum of four small values, read back from its bits
+sum_is : (a b c d : ℤ) → nat_abs a ≤ 128 → nat_abs b ≤ 128 → nat_abs c ≤ 128 → nat_abs d ≤ 128
+    → to_z w32 (of_z w32 (to_z w32 (of_z w32 (to_z w32 (of_z w32 (to_z w32 (of_z w32 a) +ℤ to_z w32 (of_z w32 b))) +ℤ to_z w32 (of_z w32 c))) +ℤ to_z w32 (of_z w32 d))) ≡ a +ℤ b +ℤ c +ℤ d
+sum_is a b c d ha hb hc hd = omega (arith, ints)
 
-plus_is : {r a b x y : ℤ} → mag r < 2 ^ 31 → a ≡ x → b ≡ y → r ≡ a +ℤ b → to_z w32 (of_z w32 r) ≡ x +ℤ y
-plus_is ok ea eb e = back w32 ok (e ∙ ap₂ ◌+ℤ◌ ea eb)
+sum_small : (a b c d : ℤ) → nat_abs a ≤ 128 → nat_abs b ≤ 128 → nat_abs c ≤ 128 → nat_abs d ≤ 128 → nat_abs (a +ℤ b +ℤ c +ℤ d) ≤ 512
+sum_small a b c d ha hb hc hd = omega (arith, abs_sum (a +ℤ b +ℤ c) d, abs_sum (a +ℤ b) c, abs_sum a b)
 
-pub plus-requires : goal.plus-requires
-plus-requires c =
-    let a = c.args in
-    let e0 = signed_is (a.p % 2) c.signed-a0.type_inv c.ranges.v0 c.signed-a0.ensures in
-    let e1 = signed_is (a.p / 2 % 2) c.signed-a1.type_inv c.ranges.v1 c.signed-a1.ensures in
-    rw (e0, e1) (omega (arith, c.requires.soft, sign_abs (a.p % 2) a.v0, sign_abs (a.p / 2 % 2) a.v1))
-
-pub plus-requires-2 : goal.plus-requires-2
-plus-requires-2 c =
-    let a = c.args in
-    let e0 = signed_is (a.p % 2) c.signed-a0.type_inv c.ranges.v0 c.signed-a0.ensures in
-    let e1 = signed_is (a.p / 2 % 2) c.signed-a1.type_inv c.ranges.v1 c.signed-a1.ensures in
-    let e2 = signed_is (a.p / 4 % 2) c.signed-a2.type_inv c.ranges.v2 c.signed-a2.ensures in
-    let x0 = sign_by (a.p % 2) a.v0 in
-    let x1 = sign_by (a.p / 2 % 2) a.v1 in
-    rw (plus_is c.plus.type_inv e0 e1 c.plus.ensures, e2)
-    (omega (arith, c.requires.soft, abs_sum x0 x1, sign_abs (a.p % 2) a.v0, sign_abs (a.p / 2 % 2) a.v1, sign_abs (a.p / 4 % 2) a.v2))
-
-pub plus-requires-3 : goal.plus-requires-3
-plus-requires-3 c =
-    let a = c.args in
-    let e0 = signed_is (a.p % 2) c.signed-a0.type_inv c.ranges.v0 c.signed-a0.ensures in
-    let e1 = signed_is (a.p / 2 % 2) c.signed-a1.type_inv c.ranges.v1 c.signed-a1.ensures in
-    let e2 = signed_is (a.p / 4 % 2) c.signed-a2.type_inv c.ranges.v2 c.signed-a2.ensures in
-    let e3 = signed_is (a.p / 8 % 2) c.signed-a3.type_inv c.ranges.v3 c.signed-a3.ensures in
-    let x0 = sign_by (a.p % 2) a.v0 in
-    let x1 = sign_by (a.p / 2 % 2) a.v1 in
-    let x2 = sign_by (a.p / 4 % 2) a.v2 in
-    rw (plus_is c.plus-2.type_inv (plus_is c.plus.type_inv e0 e1 c.plus.ensures) e2 c.plus-2.ensures, e3)
-    (omega (arith, c.requires.soft, abs_sum (x0 +ℤ x1) x2, abs_sum x0 x1, sign_abs (a.p % 2) a.v0, sign_abs (a.p / 2 % 2) a.v1, sign_abs (a.p / 4 % 2) a.v2, sign_abs (a.p / 8 % 2) a.v3))
-
-pub returns : goal.returns
+pub returns-clause-value : goal.returns-clause-value
 unfolding correlation_of
-returns c =
-    let a = c.args in
-    let e0 = signed_is (a.p % 2) c.signed-a0.type_inv c.ranges.v0 c.signed-a0.ensures in
-    let e1 = signed_is (a.p / 2 % 2) c.signed-a1.type_inv c.ranges.v1 c.signed-a1.ensures in
-    let e2 = signed_is (a.p / 4 % 2) c.signed-a2.type_inv c.ranges.v2 c.signed-a2.ensures in
-    let e3 = signed_is (a.p / 8 % 2) c.signed-a3.type_inv c.ranges.v3 c.signed-a3.ensures in
-    plus_is c.plus-3.type_inv (plus_is c.plus-2.type_inv (plus_is c.plus.type_inv e0 e1 c.plus.ensures) e2 c.plus-2.ensures) e3 c.plus-3.ensures
+returns-clause-value c =
+    let v = c.args.soft in
+    let p = c.args.pattern in
+    let f0 : SFits w8 (at v 0) = search rules in
+    let f1 : SFits w8 (at v 1) = search rules in
+    let f2 : SFits w8 (at v 2) = search rules in
+    let f3 : SFits w8 (at v 3) = search rules in
+    let s0 = c.signed.ensures in
+    let s1 = c.signed-2.ensures in
+    let s2 = c.signed-3.ensures in
+    let s3 = c.signed-4.ensures in
+    sum_is c.signed.result c.signed-2.result c.signed-3.result c.signed-4.result s0.small s1.small s2.small s3.small
+    ∙ (λ i. (s0.value ∙ ap (sign_by (p % 2)) (to_z-of_z f0)) i +ℤ (s1.value ∙ ap (sign_by (p / 2 % 2)) (to_z-of_z f1)) i
+    +ℤ (s2.value ∙ ap (sign_by (p / 4 % 2)) (to_z-of_z f2)) i +ℤ (s3.value ∙ ap (sign_by (p / 8 % 2)) (to_z-of_z f3)) i)
+
+pub returns-clause-small : goal.returns-clause-small
+returns-clause-small c =
+    let s0 = c.signed.ensures.small in
+    let s1 = c.signed-2.ensures.small in
+    let s2 = c.signed-3.ensures.small in
+    let s3 = c.signed-4.ensures.small in
+    rw (sum_is c.signed.result c.signed-2.result c.signed-3.result c.signed-4.result s0 s1 s2 s3) (sum_small c.signed.result c.signed-2.result c.signed-3.result c.signed-4.result s0 s1 s2 s3)

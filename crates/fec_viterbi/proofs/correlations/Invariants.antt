@@ -1,15 +1,12 @@
-use Rattle.std.proofs.Common.{◌≡◌, ℕ, ◌-◌, ◌<◌, ◌≤◌, length}
+use Rattle.std.proofs.Common.{◌≡◌, ℕ, ◌<◌, ◌≤◌, length, nat_abs}
 use Rattle.laws.specs.Integers.{at}
 use Rattle.fec_viterbi.specs.Code.{correlation_of}
 use Rattle.fec_viterbi.proofs.correlations.Given as goal
 
-abbrev pub invariant-loop-p : goal.invariant-loop-p
-invariant-loop-p l =
+abbrev pub invariant-loop-pattern : goal.invariant-loop-pattern
+invariant-loop-pattern l =
     record {
-      below : l.p ≤ 16;
-      size : length l.next ≡ 16;
-      each : (k : ℕ) → k < l.p → at l.next k ≡ correlation_of k l.v0 l.v1 l.v2 l.v3;
+      size : length l.value-items ≡ 16;
+      each : (p : ℕ) → p < l.pattern → at l.value-items p ≡ correlation_of l.fn.soft p;
+      small : (p : ℕ) → p < l.pattern → nat_abs (at l.value-items p) ≤ 512;
     }
-
-abbrev pub decreases-loop-p : goal.decreases-loop-p
-decreases-loop-p l = 16 - l.p
