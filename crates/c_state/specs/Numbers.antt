@@ -1,10 +1,8 @@
 -- docs/DECISIONS.md, "For C": the state of document 01's "msc/mod.rs" as eleven numbers, and back. Too few of them are refusal 8, one that its field does not hold is 10.
 use Rattle.std.specs.Prelude.{Bool, cond, List, [], ◌∷◌, ◌++◌, ℕ, ltb, length, get_or, drop}
-use Rattle.refusal.specs.Outcome.{Outcome, gives, refuses, check, first_of, any_of}
+use Rattle.refusal.specs.Outcome.{check, first_of, any_of}
 use Rattle.msc_state.specs.declared.State.{State}
 use Rattle.c_description.specs.Places.{describes, short}
-use Rattle.c_state.specs.declared.Reading.{Reading}
-use Rattle.c_state.specs.declared.Reading.TheVariants.{Read, Refused}
 
 abbrev pub flag_of : Bool → ℕ
 flag_of eep = cond eep 1 0
@@ -48,8 +46,3 @@ state_checks xs = short 11 (length xs) ∷ check 10 (out_of_range xs) ∷ []
 
 unfoldable pub state_refusal : List ℕ → ℕ
 state_refusal xs = first_of (state_checks xs)
-
--- what a reading says
-abbrev pub read_as : Reading → Outcome State
-read_as (Read s) = gives s
-read_as (Refused r) = refuses r.number

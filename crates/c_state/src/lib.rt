@@ -1,127 +1,85 @@
 // A sub-channel's state as eleven numbers in the caller's array, written and read back.
 #![tactic(auto)]
 
-ghost use Rattle.std.specs.Prelude.{◌≡◌, true, cond, ◌≤◌, length};
-ghost use Rattle.refusal.specs.Outcome.{outcome};
+ghost use Rattle.std.specs.Prelude.{◌≡◌, length, MatchResult};
+ghost use Rattle.refusal.specs.Outcome.{outcome, told, number_of};
 ghost use Rattle.c_description.specs.Places.{short, Wrote};
-ghost use Rattle.c_state.specs.Code.{InRange};
-ghost use Rattle.c_state.specs.Numbers.{flag_of, numbers_of, state_in, out_of_range, state_put, state_refusal, read_as};
+ghost use Rattle.c_state.specs.Numbers.{numbers_of, state_in, state_refusal};
 
 use fec_protection::Description;
 use msc_state::{Channel, State};
 use refusal::Refusal;
 
-// A state, or turned away: 8, 10.
-#[derive(Clone, Copy)]
-pub enum Reading {
-    Read(State),
-    Refused(Refusal),
-}
-
-fn flag(eep: bool) -> u64
-    ensures { result ≡ flag_of eep }
-{
-    if eep { 1 } else { 0 }
-}
-
-// The state's eleven numbers.
-fn put(s: State, state: &mut [u64])
-    requires { 11 ≤ length state.old }
-    ensures { state.new ≡ state_put s state.old }
+// The state's eleven numbers before the rest as it was; or 8, where there are fewer places.
+#[tactic(auto, unfolding(crate::specs::Numbers::numbers_of))]
+pub fn write(s: State, state: &mut [u64]) -> Result<(), Refusal>
+    ensures { Wrote (short 11 (length state.old)) 11 (numbers_of s) state.old state.new (number_of (told result)) }
 {
     let channel = s.channel;
     let d = channel.description;
-    state[0] = s.symbols as u64;
-    state[1] = s.cif_in_frame as u64;
-    state[2] = channel.ring_index as u64;
-    state[3] = channel.cif_count as u64;
-    state[4] = channel.frames_decoded;
-    state[5] = d.start_addr as u64;
-    state[6] = d.sub_size as u64;
-    state[7] = d.bitrate as u64;
-    state[8] = d.protection_level as u64;
-    state[9] = d.eep_option as u64;
-    state[10] = flag(d.is_eep);
+    let numbers = [
+        u64::from(s.symbols),
+        u64::from(s.cif_in_frame),
+        u64::from(channel.ring_index),
+        u64::from(channel.cif_count),
+        channel.frames_decoded,
+        u64::from(d.start_addr),
+        u64::from(d.sub_size),
+        u64::from(d.bitrate),
+        u64::from(d.protection_level),
+        u64::from(d.eep_option),
+        u64::from(d.is_eep),
+    ];
+    c_description::put(Ok(numbers), state)
 }
 
-// The state's eleven numbers before the rest as it was; or 8, where there are fewer places.
-pub fn write(s: State, state: &mut [u64]) -> u8
-    ensures { Wrote (short 11 (length state.old)) 11 (numbers_of s) state.old state.new result }
+// A number as its field holds it, or 10.
+fn field<T: TryFrom<u64>>(n: u64) -> Result<T, Refusal>
+where
+    T::Error: Drop,
+    ensures { MatchResult result (λ x. T.try_from_gives n (Ok x)) (λ r. (r ≡ Refusal.BadState) × ((e : T.Error) × T.try_from_gives n (Err e))) }
 {
-    if state.len() < 11 {
-        return 8;
-    }
-    put(s, state);
-    0
-}
-
-// A flag, or a later one.
-fn either(holds: bool, later: bool) -> bool
-    ensures { result ≡ cond holds true later }
-{
-    if holds { true } else { later }
-}
-
-// Some number is above what its field holds.
-fn out_of_range(state: &[u64]) -> bool
-    requires { 11 ≤ length state.now }
-    ensures { result ≡ out_of_range state.now }
-{
-    let option = 255 < state[9];
-    let level = either(255 < state[8], option);
-    let rate = either(65535 < state[7], level);
-    let size = either(65535 < state[6], rate);
-    let start = either(65535 < state[5], size);
-    let count = either(255 < state[3], start);
-    let index = either(255 < state[2], count);
-    let in_frame = either(255 < state[1], index);
-    either(255 < state[0], in_frame)
-}
-
-// Fewer than eleven places, or a number above what its field holds: 8, 10.
-fn refusal_of(state: &[u64]) -> u8
-    ensures { result ≡ state_refusal state.now }
-{
-    if state.len() < 11 {
-        return 8;
-    }
-    if out_of_range(state) { 10 } else { 0 }
-}
-
-// The state of eleven numbers.
-fn state_of(state: &[u64]) -> State
-    requires in_bounds { 11 ≤ length state.now }
-    requires in_range { InRange state.now }
-    ensures { result ≡ state_in state.now }
-{
-    let d = Description {
-        start_addr: state[5] as u16,
-        sub_size: state[6] as u16,
-        bitrate: state[7] as u16,
-        protection_level: state[8] as u8,
-        eep_option: state[9] as u8,
-        is_eep: state[10] != 0,
-    };
-    let channel = Channel {
-        description: d,
-        ring_index: state[2] as u8,
-        cif_count: state[3] as u8,
-        frames_decoded: state[4],
-    };
-    State {
-        symbols: state[0] as u8,
-        cif_in_frame: state[1] as u8,
-        channel,
-    }
+    T::try_from(n).map_err(|_| Refusal::BadState)
 }
 
 // The state that the first eleven numbers are: 8, 10.
-pub fn read(state: &[u64]) -> Reading
-    ensures { read_as result ≡ outcome (state_refusal state.now) (state_in state.now) }
+pub fn read(state: &[u64]) -> Result<State, Refusal>
+    ensures { told result ≡ outcome (state_refusal state.now) (state_in state.now) }
 {
-    let number = refusal_of(state);
-    if number != 0 {
-        return Reading::Refused(Refusal { number });
-    }
-    Reading::Read(state_of(state))
+    let &[
+        symbols,
+        cif_in_frame,
+        ring_index,
+        cif_count,
+        frames_decoded,
+        start_addr,
+        sub_size,
+        bitrate,
+        protection_level,
+        eep_option,
+        is_eep,
+        ..
+    ] = state
+    else {
+        return Err(Refusal::ShortBuffer);
+    };
+    let description = Description {
+        start_addr: field(start_addr)?,
+        sub_size: field(sub_size)?,
+        bitrate: field(bitrate)?,
+        protection_level: field(protection_level)?,
+        eep_option: field(eep_option)?,
+        is_eep: is_eep != 0,
+    };
+    let channel = Channel {
+        description,
+        ring_index: field(ring_index)?,
+        cif_count: field(cif_count)?,
+        frames_decoded,
+    };
+    Ok(State {
+        symbols: field(symbols)?,
+        cif_in_frame: field(cif_in_frame)?,
+        channel,
+    })
 }
