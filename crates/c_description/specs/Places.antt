@@ -12,7 +12,8 @@ describes start size rate level option eep =
 abbrev pub short : ℕ → ℕ → ℕ
 short need places = check 8 (ltb places need)
 
--- refused by n with all as it was; or the values stand in the needed places, before the rest as it was
-pub record Wrote (n need : ℕ) (values before after : List ℕ) (number : ℕ) : Type 0 where
-  pub answer : number ≡ n
-  pub places : after ≡ unless_refused n (values ++ drop need before) before
+module _ {A : Type 0} where
+  -- refused by n with all as it was; or the values stand in the needed places, before the rest as it was
+  pub record Wrote (n need : ℕ) (values before after : List A) (number : ℕ) : Type 0 where
+    pub answer : number ≡ n
+    pub places : after ≡ unless_refused n (values ++ drop need before) before

@@ -1,19 +1,19 @@
 // A description as six numbers, as C passes it, and what is asked of one: its judgement, its profile and its sizes, in the caller's places.
 #![tactic(auto)]
 
-ghost use Rattle.std.specs.Prelude.{◌≡◌, [], ◌∷◌, length};
+ghost use Rattle.std.specs.Prelude.{◌≡◌, length};
 ghost use Rattle.spec_en300401.specs.Puncturing.{kept_size};
-ghost use Rattle.refusal.specs.Outcome.{number_of, or_else};
-ghost use Rattle.fec_protection.specs.Answers.{judged_as, sized_as};
+ghost use Rattle.refusal.specs.Outcome.{told, number_of};
 ghost use Rattle.fec_protection.specs.Promises.{mother_size};
 ghost use Rattle.fec_protection.specs.Refusals.{refusal_of};
-ghost use Rattle.c_description.specs.Code.{row_in, size_in};
 ghost use Rattle.c_description.specs.Lookups.{row_of, one, Looked};
 ghost use Rattle.c_description.specs.Places.{describes, short, Wrote};
 
-use fec_protection::{Description, Judged, ProtectionParams, Size};
+use fec_protection::Description;
+use refusal::Refusal;
 
 // Any flag but 0 says EEP.
+#[tactic(auto, unfolding(crate::specs::Places::describes))]
 pub fn described(
     start_addr: u16,
     sub_size: u16,
@@ -25,172 +25,62 @@ pub fn described(
     ensures { result ≡ describes start_addr sub_size bitrate protection_level eep_option is_eep }
 {
     Description {
-        start_addr: start_addr,
-        sub_size: sub_size,
-        bitrate: bitrate,
-        protection_level: protection_level,
-        eep_option: eep_option,
+        start_addr,
+        sub_size,
+        bitrate,
+        protection_level,
+        eep_option,
         is_eep: is_eep != 0,
     }
 }
 
-// The number of a refusal, 0 where there is none.
-pub fn number(judged: Judged) -> u8
-    ensures { result ≡ number_of (judged_as judged) }
+// Values into the first places, before the rest as it was; 8 where there are fewer.
+pub fn put<T: Copy, const N: usize>(values: [T; N], places: &mut [T]) -> Result<(), Refusal>
+    ensures { Wrote (short N (length places.old)) N values places.old places.new (number_of (told result)) }
 {
-    match judged {
-        Judged::Refused(r) => r.number,
-        Judged::Accepted => 0,
+    if places.len() < N {
+        return Err(Refusal::ShortBuffer);
     }
+    places[..N].copy_from_slice(&values);
+    Ok(())
 }
 
 // 1 to 7.
-pub fn judge(
-    start_addr: u16,
-    sub_size: u16,
-    bitrate: u16,
-    protection_level: u8,
-    eep_option: u8,
-    is_eep: u32,
-) -> u8
-    ensures { result ≡ refusal_of (describes start_addr sub_size bitrate protection_level eep_option is_eep) }
+pub fn judge(d: Description) -> Result<(), Refusal>
+    ensures { number_of (told result) ≡ refusal_of d }
 {
-    let d = described(
-        start_addr,
-        sub_size,
-        bitrate,
-        protection_level,
-        eep_option,
-        is_eep,
-    );
-    number(fec_protection::judge(d))
-}
-
-// A row into the first eight places, unless it was refused: then its number, and 8 where there are fewer.
-fn put_row(refusal: u8, p: ProtectionParams, row: &mut [u64]) -> u8
-    ensures { Wrote (or_else refusal (short 8 (length row.old))) 8 (row_in p) row.old row.new result }
-{
-    if refusal != 0 {
-        return refusal;
-    }
-    if row.len() < 8 {
-        return 8;
-    }
-    let b = p.blocks;
-    let v = p.pi;
-    row[0] = b[0] as u64;
-    row[1] = b[1] as u64;
-    row[2] = b[2] as u64;
-    row[3] = b[3] as u64;
-    row[4] = v[0] as u64;
-    row[5] = v[1] as u64;
-    row[6] = v[2] as u64;
-    row[7] = v[3] as u64;
-    0
+    fec_protection::judge(d)
 }
 
 // 1 to 4, then 8.
-pub fn profile(
-    start_addr: u16,
-    sub_size: u16,
-    bitrate: u16,
-    protection_level: u8,
-    eep_option: u8,
-    is_eep: u32,
-    row: &mut [u64],
-) -> u8
-    ensures { Looked (describes start_addr sub_size bitrate protection_level eep_option is_eep) 8 row_of row.old row.new result }
+#[tactic(auto, unfolding(crate::specs::Lookups::row_of, fec_profiles::specs::Rows::sections_of))]
+pub fn profile(d: Description, row: &mut [u64]) -> Result<(), Refusal>
+    ensures { Looked d 8 row_of row.old row.new (number_of (told result)) }
 {
-    let d = described(
-        start_addr,
-        sub_size,
-        bitrate,
-        protection_level,
-        eep_option,
-        is_eep,
-    );
-    let found = fec_protection::protection_params(d);
-    let judged = found.judged;
-    let params = found.params;
-    put_row(number(judged), params, row)
-}
-
-fn size_refusal(answer: Size) -> u8
-    ensures { result ≡ number_of (sized_as answer) }
-{
-    match answer {
-        Size::Refused(r) => r.number,
-        Size::Values(_) => 0,
-    }
-}
-
-fn size_in(answer: Size) -> usize
-    ensures { result ≡ size_in answer }
-{
-    match answer {
-        Size::Refused(_) => 0,
-        Size::Values(n) => n,
-    }
-}
-
-// A size into the first place, unless it was refused: then its number, and 8 where there is no place.
-fn put_size(refusal: u8, n: usize, size: &mut [u64]) -> u8
-    ensures { Wrote (or_else refusal (short 1 (length size.old))) 1 (n ∷ []) size.old size.new result }
-{
-    if refusal != 0 {
-        return refusal;
-    }
-    if size.len() < 1 {
-        return 8;
-    }
-    size[0] = n as u64;
-    0
+    let [first, second, third, fourth] = fec_protection::protection_params(d)?.sections;
+    let numbers = [
+        first.blocks as u64,
+        second.blocks as u64,
+        third.blocks as u64,
+        fourth.blocks as u64,
+        first.pi as u64,
+        second.pi as u64,
+        third.pi as u64,
+        fourth.pi as u64,
+    ];
+    put(numbers, row)
 }
 
 // How many values the profile sends: 1 to 4, then 8.
-pub fn needed_size(
-    start_addr: u16,
-    sub_size: u16,
-    bitrate: u16,
-    protection_level: u8,
-    eep_option: u8,
-    is_eep: u32,
-    size: &mut [u64],
-) -> u8
-    ensures { Looked (describes start_addr sub_size bitrate protection_level eep_option is_eep) 1 (one kept_size) size.old size.new result }
+pub fn needed_size(d: Description, size: &mut [u64]) -> Result<(), Refusal>
+    ensures { Looked d 1 (one kept_size) size.old size.new (number_of (told result)) }
 {
-    let d = described(
-        start_addr,
-        sub_size,
-        bitrate,
-        protection_level,
-        eep_option,
-        is_eep,
-    );
-    let answer = fec_protection::needed_size(d);
-    put_size(size_refusal(answer), size_in(answer), size)
+    put([fec_protection::needed_size(d)? as u64], size)
 }
 
 // How many values they become when depunctured: 1 to 4, then 8.
-pub fn depunctured_size(
-    start_addr: u16,
-    sub_size: u16,
-    bitrate: u16,
-    protection_level: u8,
-    eep_option: u8,
-    is_eep: u32,
-    size: &mut [u64],
-) -> u8
-    ensures { Looked (describes start_addr sub_size bitrate protection_level eep_option is_eep) 1 (one mother_size) size.old size.new result }
+pub fn depunctured_size(d: Description, size: &mut [u64]) -> Result<(), Refusal>
+    ensures { Looked d 1 (one mother_size) size.old size.new (number_of (told result)) }
 {
-    let d = described(
-        start_addr,
-        sub_size,
-        bitrate,
-        protection_level,
-        eep_option,
-        is_eep,
-    );
-    let answer = fec_protection::depunctured_size(d);
-    put_size(size_refusal(answer), size_in(answer), size)
+    put([fec_protection::depunctured_size(d)? as u64], size)
 }

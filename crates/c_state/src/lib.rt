@@ -30,7 +30,7 @@ pub fn write(s: State, state: &mut [u64]) -> Result<(), Refusal>
         u64::from(d.eep_option),
         u64::from(d.is_eep),
     ];
-    c_description::put(Ok(numbers), state)
+    c_description::put(numbers, state)
 }
 
 // A number as its field holds it, or 10.
