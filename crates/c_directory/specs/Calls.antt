@@ -1,14 +1,13 @@
 -- docs/DECISIONS.md, "For C": what order 1's five calls return and write; an answer is numbers in the caller's places, 12 comes first, then 8 for those.
-use Rattle.std.specs.Prelude.{◌≡◌, List, [], ◌∷◌, ◌++◌, ℕ, length, get_or, drop}
-use Rattle.std.proofs.Math.Option.{Option, none, some}
+use Rattle.std.specs.Prelude.{◌≡◌, List, [], ◌∷◌, ◌++◌, ℕ, length, get_or, replicate, drop, Option, Some, None}
+use Rattle.std.proofs.Math.Option.{none}
 use Rattle.laws.specs.Words.{pick_n}
 use Rattle.refusal.specs.Outcome.{or_else, unless_refused}
-use Rattle.spec_en300401.specs.Organisation.{Service}
 use Rattle.fec_protection.specs.declared.Description.{Description}
-use Rattle.c_description.specs.Places.{describes, short}
-use Rattle.fic_directory_places.specs.declared.Identity.{Identity}
+use Rattle.c_description.specs.Places.{describes, short, Wrote}
+use Rattle.fic_directory_places.specs.declared.ServiceEntry.{ServiceEntry}
 use Rattle.fic_directory_places.specs.Places.{Held, subs_of, services_of}
-use Rattle.fic_directory_places.specs.Promises.{subs_refusal, services_refusal, directory_refusal, emptied, described, identity_of, words_of, audio_of}
+use Rattle.fic_directory_places.specs.Promises.{subs_refusal, services_refusal, directory_refusal, emptied, described, service_of, audio_of}
 use Rattle.fic_directory.specs.declared.Reading.{Reading}
 use Rattle.fic_directory.specs.Promises.{read_into, reading_of}
 
@@ -35,14 +34,13 @@ pub record ReadCall (fibs : List ℕ) (before : Held) (counts : List ℕ) (numbe
   pub counts_are : counts' ≡ unless_refused (read_number before (length counts)) (counts_of (reading_of fibs before) ++ drop 5 counts) counts
 
 -- an answer of some numbers before the rest as it was; or refusal n, or else 8 under as many places, and all as it was
-pub record Answered (n need : ℕ) (values before after : List ℕ) (number : ℕ) : Type 0 where
-  pub answer : number ≡ or_else n (short need (length before))
-  pub places : after ≡ unless_refused (or_else n (short need (length before))) (values ++ drop need before) before
+abbrev pub Answered : ℕ → ℕ → List ℕ → List ℕ → List ℕ → ℕ → Type 0
+Answered n need values before after number = Wrote (or_else n (short need (length before))) need values before after number
 
 -- 1 and the six numbers of a description, in the order in which set-up takes them; seven times 0 for none
 abbrev pub description_told : Option Description → List ℕ
-description_told none = 0 ∷ 0 ∷ 0 ∷ 0 ∷ 0 ∷ 0 ∷ 0 ∷ []
-description_told (some d) =
+description_told None = 0 ∷ 0 ∷ 0 ∷ 0 ∷ 0 ∷ 0 ∷ 0 ∷ []
+description_told (Some d) =
     1 ∷ d.start_addr ∷ d.sub_size ∷ d.bitrate ∷ d.protection_level ∷ d.eep_option ∷ pick_n d.is_eep 1 0 ∷ []
 
 abbrev pub SubCall : List ℕ → ℕ → List ℕ → ℕ → List ℕ → Type 0
@@ -51,28 +49,24 @@ SubCall subs id before number after =
 
 -- a description that was told is the one that set-up then reads
 abbrev pub told_at : Description → ℕ → ℕ
-told_at d k = get_or (description_told (some d)) k 0
+told_at d k = get_or (description_told (Some d)) k 0
 
 abbrev pub Handed : Type 0
 Handed = (d : Description) → describes (told_at d 1) (told_at d 2) (told_at d 3) (told_at d 4) (told_at d 5) (told_at d 6) ≡ d
 
--- 1, whether its identifier has 32 bits, the identifier, and how many components; four times 0 for none
-abbrev pub identity_told : Option Identity → List ℕ
-identity_told none = 0 ∷ 0 ∷ 0 ∷ 0 ∷ []
-identity_told (some i) = 1 ∷ pick_n i.wide 1 0 ∷ i.sid ∷ i.components ∷ []
-
--- with twelve components' words behind it, 0 where there is none
-abbrev pub service_told : Option Service → List ℕ
-service_told s = identity_told (identity_of s) ++ words_of s
+-- 1, whether its identifier has 32 bits, the identifier, how many components, and twelve components' words, 0 where there is none; sixteen times 0 for no service
+abbrev pub service_told : Option ServiceEntry → List ℕ
+service_told None = replicate 16 0
+service_told (Some s) = (1 ∷ pick_n s.wide 1 0 ∷ s.sid ∷ s.count ∷ []) ++ s.words
 
 abbrev pub ServiceCall : List ℕ → ℕ → List ℕ → ℕ → List ℕ → Type 0
 ServiceCall services place before number after =
-    Answered (services_refusal (length services)) 16 (service_told (get_or (services_of services) place none)) before after number
+    Answered (services_refusal (length services)) 16 (service_told (service_of (get_or (services_of services) place none))) before after number
 
 -- 1 and the SubChId, or twice 0
 abbrev pub audio_told : Option ℕ → List ℕ
-audio_told none = 0 ∷ 0 ∷ []
-audio_told (some n) = 1 ∷ n ∷ []
+audio_told None = 0 ∷ 0 ∷ []
+audio_told (Some n) = 1 ∷ n ∷ []
 
 abbrev pub AudioCall : List ℕ → ℕ → List ℕ → ℕ → List ℕ → Type 0
 AudioCall services place before number after =
