@@ -27,6 +27,7 @@ pub fn pack(bits: &[u8], bytes: &mut [u8]) -> Result<usize, Refusal>
     if bytes.len() < eights.len() {
         return Err(Refusal::ShortBuffer);
     }
+    // By index: after a zip over `iter_mut` a proof knows none of the bytes that it wrote.
     for (j, eight) in eights.iter().enumerate() {
         bytes[j] = byte_of(eight);
     }

@@ -16,6 +16,7 @@ pub fn convert(bytes: &[u8], soft: &mut [i8])
     ensures { soft.new ≡ converted bytes.now soft.old }
 {
     let n = bytes.len().min(soft.len());
+    // By index: after a zip over `iter_mut` a proof knows none of the values that it wrote.
     for (i, byte) in bytes[..n].iter().enumerate() {
         soft[i] = soft_of(*byte);
     }
