@@ -167,6 +167,7 @@ fn forward(soft: &[i8], words: &mut [u64]) -> [i32; 64]
     let patterns = Patterns::new();
     let (steps, _) = soft.as_chunks::<4>();
     let mut scores = start();
+    // By index: over a `zip` with `iter_mut` the proof loses what was written.
     for (k, word) in words.iter_mut().enumerate() {
         scores = renormalised(step(scores, &patterns, steps[k], word));
     }
