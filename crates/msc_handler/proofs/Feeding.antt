@@ -6,24 +6,27 @@ use mathlib.Core.List.{List, ◌++◌}
 use Prim.Native.Nat.{ℕ, zero, suc, ◌*◌, ◌<◌, ◌≤◌}
 use native.Mathlib.Omega.{arith}
 use borrow.Author.Tests.{le-leb, lt-leb}
-use lib.ListN.{length, take, drop}
+use lib.ListN.{length, drop, length-append}
 use lib.Seq.{take_at}
 use lib.IntN.{ℤ}
 use lib.Ieee.{Float}
 use Rattle.laws.proofs.Lists.{length-list_of}
 use Rattle.spec_en300401.specs.Puncturing.{mask, depuncture}
 use Rattle.fec_protection.specs.Refusals.{profile_of, depunctured_length}
-use Rattle.refusal.specs.Outcome.{gives, refuses, outcome, number_of}
-use Rattle.refusal.proofs.Laws.{refused_by}
+use Rattle.refusal.specs.Outcome.{Outcome, gives, refuses, outcome, number_of, numbered}
+use Rattle.refusal.proofs.Laws.{refused_by, refused-number, is_refusal}
+use Rattle.refusal.specs.declared.Refusal.{Refusal}
+use Rattle.refusal.proofs.Told.{numbered_one}
 use Rattle.fec_viterbi.specs.Decoders.{ends_of}
 use Rattle.msc_handler.specs.declared.Answer.{Answer}
 use Rattle.msc_handler.specs.declared.Answer.TheVariants.{Waiting, Frame, Refused}
 use Rattle.msc_state.specs.declared.Channel.{Channel}
 use Rattle.msc_handler.specs.declared.Fed.{Fed}
 use Rattle.msc_state.specs.declared.State.{State}
+use Rattle.msc_handler.specs.Code.{values_in, FrameLent, FrameMade}
 use Rattle.msc_handler.specs.Frames.{Framed}
-use Rattle.msc_handler.specs.Promises.{Said, waiting, framed, said_of, Buffers, buffers, refusal_in, step_of, gathers, completes, Turn, turn_of, slice_of, delayed, gathered, rotated, depunctured_of, Completed, CifPromise, Feeds, FeedPromise}
-use Rattle.msc_handler.specs.Ring.{stored, read_out, refilled}
+use Rattle.msc_handler.specs.Promises.{Said, waiting, framed, said_of, Buffers, buffers, refusal_in, step_of, gathers, completes, Turn, turn_of, delayed, gathered, rotated, depunctured_of, Completed, CifPromise, Feeds, FeedPromise}
+use Rattle.msc_handler.specs.Ring.{stored, read_out}
 use Rattle.msc_state.specs.States.{values_of, whole, due, state_after}
 use Rattle.msc_handler.proofs.Frames.{framed_unique}
 
@@ -32,47 +35,54 @@ unfolding read_out
 delayed-length c ring = length-list_of (values_of c.description) _
 
 -- a whole CIF, from what the code leaves
-module _ (c : Channel) (b : Buffers) where
-  abbrev n : ℕ
-  n = values_of c.description
+module _ (c : Channel) (b : Buffers) {b₁ : Buffers} (turned : b₁ ≡ rotated c b) where
+  pub cif-waits : c.cif_count < 16 → CifPromise c b (gives waiting) b₁
+  unfolding Completed
+  cif-waits h = subst (λ (d : Bool). Completed d c b (gives waiting) b₁) (sym (lt-leb 16 c.cif_count h)) (refl, turned)
 
-  module _ {ring' read' : List ℤ} (filled : ring' ≡ refilled b.ring n c.ring_index (slice_of c.description b.cif)) (read : read' ≡ delayed c b.ring ++ drop n b.deinterleaved) where
-    pub cif-waits : c.cif_count < 16 → CifPromise c b (gives waiting) (buffers b.cif ring' read' b.depunctured b.words b.bits b.frame)
-    unfolding Completed
-    cif-waits h =
-        subst (λ (d : Bool). Completed d c b (gives waiting) (buffers b.cif ring' read' b.depunctured b.words b.bits b.frame)) (sym (lt-leb 16 c.cif_count h))
-        (refl, λ i. buffers b.cif (filled i) (read i) b.depunctured b.words b.bits b.frame)
+  -- what is lent stays long enough
+  pub lent-on : FrameLent c.description b → FrameLent c.description b₁
+  lent-on r =
+      subst (FrameLent c.description) (sym turned)
+      (record {
+        none = r.none;
+        read_long = omega (arith, r.read_long, length-append (delayed c b.ring) (drop (values_of c.description) b.deinterleaved), delayed-length c b.ring);
+        soft_long = r.soft_long;
+        words_long = r.words_long;
+        bits_long = r.bits_long;
+        frame_long = r.frame_long;
+      })
 
-    values-are : take n read' ≡ delayed c b.ring
-    values-are = ap (take n) read ∙ take_at (delayed c b.ring) (drop n b.deinterleaved) n (delayed-length c b.ring)
+  -- the values of what was read before it
+  values-are : values_in c.description (rotated c b).deinterleaved ≡ depunctured_of c b.ring
+  values-are =
+      let n = values_of c.description in
+      ap (depuncture (mask (profile_of c.description))) (take_at (delayed c b.ring) (drop n b.deinterleaved) n (delayed-length c b.ring))
 
-    -- the depunctured values, as the code has them
-    abbrev values : List ℤ
-    values = depuncture (mask (profile_of c.description)) (take n read')
-
-    pub cif-frames : {dep' : List ℤ} {words' bits' frame' : List ℕ} {p : Float} → 16 ≤ c.cif_count → dep' ≡ values ++ drop (depunctured_length c.description) b.depunctured
-        → Framed (ends_of c.description.is_eep) c.description.bitrate values b.words b.bits b.frame p words' bits' frame'
-        → CifPromise c b (gives (framed (3 * c.description.bitrate) p)) (buffers b.cif ring' read' dep' words' bits' frame')
-    unfolding Completed
-    cif-frames {dep'} {words'} {bits'} {frame'} {p} h d f =
-        let same : values ≡ depunctured_of c b.ring = ap (depuncture (mask (profile_of c.description))) values-are in
-        let dep-is : dep' ≡ depunctured_of c b.ring ++ drop (depunctured_length c.description) b.depunctured = d ∙ ap (λ (v : List ℤ). v ++ drop (depunctured_length c.description) b.depunctured) same in
-        subst (λ (e : Bool). Completed e c b (gives (framed (3 * c.description.bitrate) p)) (buffers b.cif ring' read' dep' words' bits' frame')) (sym (le-leb 16 c.cif_count h))
-        (record {
-          percent = p;
-          words' = words';
-          bits' = bits';
-          frame' = frame';
-          framing = subst (λ (v : List ℤ). Framed (ends_of c.description.is_eep) c.description.bitrate v b.words b.bits b.frame p words' bits' frame') same f;
-          answer = refl;
-          buffers_are = λ i. buffers b.cif (filled i) (read i) (dep-is i) words' bits' frame';
-        })
+  pub cif-frames : {b' : Buffers} {p : Float} → 16 ≤ c.cif_count → FrameMade c.description b₁ p b' → CifPromise c b (gives (framed (3 * c.description.bitrate) p)) b'
+  unfolding Completed
+  cif-frames {b'} {p} h made =
+      let d = c.description in
+      let m = subst (λ (q : Buffers). FrameMade d q p b') turned made in
+      subst (λ (e : Bool). Completed e c b (gives (framed (3 * d.bitrate) p)) b') (sym (le-leb 16 c.cif_count h))
+      (record {
+        percent = p;
+        words' = b'.words;
+        bits' = b'.bits;
+        frame' = b'.frame;
+        framing = subst (λ (v : List ℤ). Framed (ends_of d.is_eep) d.bitrate v b.words b.bits b.frame p b'.words b'.bits b'.frame) values-are m.framing;
+        answer = refl;
+        buffers_are = m.buffers_are ∙ ap (λ (v : List ℤ). buffers b.cif (rotated c b).ring (rotated c b).deinterleaved (v ++ drop (depunctured_length d) b.depunctured) b'.words b'.bits b'.frame) values-are;
+      })
 
 -- a call, from what the code leaves
 module _ (s : State) (soft : List ℤ) (b : Buffers) where
-  refused-turn : {k : ℕ} → k ≡ refusal_in s soft b → (k ≡ 0 → ⊥) → turn_of s soft b ≡ refuses k
+  refused-turn : (k : ℕ) → ◌≡◌ {A = Outcome (Unit {0})} (refuses k) (outcome (refusal_in s soft b) tt) → turn_of s soft b ≡ refuses k
   unfolding turn_of
-  refused-turn {k} e h = sym (refused_by (refusal_in s soft b) (step_of (whole s)) k e h)
+  refused-turn k e =
+      let n = refusal_in s soft b in
+      let same : n ≡ k = refused-number n tt k e in
+      sym (refused_by n (step_of (whole s)) k (sym same) (λ z. is_refusal n tt k e (same ∙ z)))
 
   accepted-turn : {w : Bool} → refusal_in s soft b ≡ 0 → whole s ≡ w → turn_of s soft b ≡ gives (step_of w)
   unfolding turn_of
@@ -81,22 +91,21 @@ module _ (s : State) (soft : List ℤ) (b : Buffers) where
   by_turn : {t : Turn} {r : Fed} {b' : Buffers} → turn_of s soft b ≡ t → Feeds t s soft b r.state (said_of r.answer) b' → FeedPromise s soft b r b'
   by_turn {t} {r} {b'} e f = record { feeds = subst (λ (u : Turn). Feeds u s soft b r.state (said_of r.answer) b') (sym e) f }
 
-  pub feed_refused : {k : ℕ} → k ≡ refusal_in s soft b → (k ≡ 0 → ⊥) → FeedPromise s soft b (record { state = s; answer = Refused k }) b
+  pub feed_refused : (r : Refusal) → ◌≡◌ {A = Outcome (Unit {0})} (refuses (numbered r)) (outcome (refusal_in s soft b) tt) → FeedPromise s soft b (record { state = s; answer = Refused r }) b
   unfolding Feeds
-  feed_refused e h = by_turn (refused-turn e h) (refl, refl, refl)
+  feed_refused r e = by_turn (refused-turn (numbered r) e) (refl, refl, refl)
 
   module _ (none : refusal_in s soft b ≡ 0) {s' : State} (moved : s' ≡ state_after s) {cif' : List ℤ} (kept : cif' ≡ stored b.cif s.symbols soft) where
     pub feed_gathers : s.symbols < 17 → FeedPromise s soft b (record { state = s'; answer = Waiting }) (buffers cif' b.ring b.deinterleaved b.depunctured b.words b.bits b.frame)
     unfolding Feeds
     feed_gathers h = by_turn (accepted-turn none (lt-leb 17 s.symbols h)) (moved, refl, λ i. buffers (kept i) b.ring b.deinterleaved b.depunctured b.words b.bits b.frame)
 
-    pub feed_completes : {a : Answer} {ring' read' dep' : List ℤ} {words' bits' frame' : List ℕ} → 17 ≤ s.symbols
-        → CifPromise s.channel (buffers cif' b.ring b.deinterleaved b.depunctured b.words b.bits b.frame) (said_of a) (buffers cif' ring' read' dep' words' bits' frame')
-        → FeedPromise s soft b (record { state = s'; answer = a }) (buffers cif' ring' read' dep' words' bits' frame')
+    pub feed_completes : {a : Answer} {b' : Buffers} → 17 ≤ s.symbols
+        → CifPromise s.channel (buffers cif' b.ring b.deinterleaved b.depunctured b.words b.bits b.frame) (said_of a) b' → FeedPromise s soft b (record { state = s'; answer = a }) b'
     unfolding Feeds
-    feed_completes {a} {ring'} {read'} {dep'} {words'} {bits'} {frame'} h p =
+    feed_completes {a} {b'} h p =
         by_turn (accepted-turn none (le-leb 17 s.symbols h))
-        (moved, subst (λ (c : List ℤ). CifPromise s.channel (buffers c b.ring b.deinterleaved b.depunctured b.words b.bits b.frame) (said_of a) (buffers cif' ring' read' dep' words' bits' frame')) kept p)
+        (moved, subst (λ (c : List ℤ). CifPromise s.channel (buffers c b.ring b.deinterleaved b.depunctured b.words b.bits b.frame) (said_of a) b') kept p)
 
 -- and back: what each turn leaves of the state, the CIF store, the ring and what was read
 pub record Gathered (s : State) (soft : List ℤ) (b : Buffers) (s' : State) (b' : Buffers) : Type 0 where
@@ -126,14 +135,17 @@ fed_said (suc n) w s soft b s' said b' x = ap number_of x.1
 fed_said zero false s soft b s' said b' x = ap number_of x.1
 fed_said zero true s soft b s' said b' x = completed_number (due s.channel) s.channel (gathered s soft b) said b' x.1
 
+by_number : {A : Type 0} (n : ℕ) (a : A) → (n ≡ 0 → ⊥) → outcome n a ≡ refuses n
+by_number n a h = sym (refused_by n a n refl h)
+
 module _ (s : State) (soft : List ℤ) (b : Buffers) {r : Fed} {b' : Buffers} (p : FeedPromise s soft b r b') where
   in_turn : (t : Turn) → turn_of s soft b ≡ t → Feeds t s soft b r.state (said_of r.answer) b'
   in_turn t e = subst (λ (u : Turn). Feeds u s soft b r.state (said_of r.answer) b') e p.feeds
 
   pub fed-refuses : (refusal_in s soft b ≡ 0 → ⊥) → (r.state ≡ s) × (b' ≡ b)
-  unfolding Feeds
+  unfolding Feeds turn_of
   fed-refuses h =
-      let x = in_turn (refuses (refusal_in s soft b)) (refused-turn s soft b refl h) in
+      let x = in_turn (refuses (refusal_in s soft b)) (by_number (refusal_in s soft b) (step_of (whole s)) h) in
       (x.0, x.2)
 
   pub fed-gathers : refusal_in s soft b ≡ 0 → s.symbols < 17 → Gathered s soft b r.state b'
@@ -167,7 +179,7 @@ said_unique (Frame m q) (Frame n p) e =
 said_unique (Frame m q) (Refused n) e = let z : ◌≡◌ {A = ℕ} 0 1 = cc in absurd (omega arith)
 said_unique (Refused m) Waiting e = let z : ◌≡◌ {A = ℕ} 0 1 = cc in absurd (omega arith)
 said_unique (Refused m) (Frame n p) e = let z : ◌≡◌ {A = ℕ} 0 1 = cc in absurd (omega arith)
-said_unique (Refused m) (Refused n) e = let x : m ≡ n = cc in ap Refused x
+said_unique (Refused r) (Refused q) e = let x : numbered r ≡ numbered q = cc in ap Refused (numbered_one r q x)
 
 -- one result
 pub record SameFed (r r₂ : Fed) (b b₂ : Buffers) : Type 0 where

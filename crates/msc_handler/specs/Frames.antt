@@ -1,13 +1,10 @@
 -- Document 01, "msc/mod.rs" and "Quality": from depunctured values to the bytes of a frame and its percentage.
-use Rattle.std.specs.Prelude.{◌≡◌, false, List, ◌++◌, ℕ, ◌+◌, ◌*◌, ◌≤◌, length, take, drop, ℤ, pos, Float}
-use Rattle.std.specs.Float.{fin}
+use Rattle.std.specs.Prelude.{◌≡◌, List, ◌++◌, ℕ, ◌+◌, ◌*◌, ◌≤◌, length, take, drop, ℤ, Float}
 use Rattle.spec_en300401.specs.Bytes.{bytes_of_bits}
 use Rattle.spec_en300401.specs.Dispersal.{disperse}
 use Rattle.spec_trellis.specs.Trellis.{Ends}
 use Rattle.msc_state.specs.States.{steps_of}
 use Rattle.fec_quality.specs.Figures.{sum_abs, percent_of}
-use Rattle.fec_quality.specs.declared.Measured.{Measured}
-use Rattle.fec_quality.specs.declared.Measured.TheVariants.{Is, «Refused» as not-measured}
 use Rattle.fec_viterbi.specs.Result.{Decodes, ChoiceWords}
 
 -- the first 24 × bitrate of the decoded bits, dispersed afresh
@@ -33,8 +30,3 @@ pub record FrameLongEnough (rate : ℕ) (soft : List ℤ) (words bits frame : Li
   pub words_long : steps_of rate ≤ length words
   pub bits_long : steps_of rate ≤ length bits
   pub frame_long : 3 * rate ≤ length frame
-
--- the percentage of a quality, where there is one
-abbrev pub percent_in : Measured → Float
-percent_in (Is q) = q.percent
-percent_in (not-measured r) = fin false 0 (pos 0)

@@ -3,7 +3,7 @@ use Rattle.std.specs.Prelude.{◌≡◌, Bool, true, false, List, ◌++◌, ℕ,
 use Rattle.spec_en300401.specs.Puncturing.{mask, depuncture}
 use Rattle.fec_protection.specs.declared.Description.{Description}
 use Rattle.fec_protection.specs.Refusals.{profile_of, depunctured_length}
-use Rattle.refusal.specs.Outcome.{Outcome, gives, refuses, outcome}
+use Rattle.refusal.specs.Outcome.{Outcome, gives, refuses, outcome, numbered}
 use Rattle.fec_viterbi.specs.Decoders.{ends_of}
 use Rattle.msc_handler.specs.declared.Answer.{Answer}
 use Rattle.msc_handler.specs.declared.Answer.TheVariants.{Waiting, Frame, Refused}
@@ -27,7 +27,7 @@ Said = Outcome Given
 abbrev pub said_of : Answer → Said
 said_of Waiting = gives waiting
 said_of (Frame n p) = gives (framed n p)
-said_of (Refused n) = refuses n
+said_of (Refused r) = refuses (numbered r)
 
 -- the caller's seven buffers
 pub record Buffers : Type 0 where
