@@ -7,15 +7,28 @@ use Rattle.fec_viterbi.specs.Code.{correlation_of}
 use Rattle.fec_viterbi.proofs.correlation.Goals as goal
 
 -- a sum of four small values, read back from its bits
-sum_is : (a b c d : ℤ) → nat_abs a ≤ 128 → nat_abs b ≤ 128 → nat_abs c ≤ 128 → nat_abs d ≤ 128
-    → to_z w32 (of_z w32 (to_z w32 (of_z w32 (to_z w32 (of_z w32 (to_z w32 (of_z w32 a) +ℤ to_z w32 (of_z w32 b))) +ℤ to_z w32 (of_z w32 c))) +ℤ to_z w32 (of_z w32 d))) ≡ a +ℤ b +ℤ c +ℤ d
-sum_is a b c d ha hb hc hd = omega (arith, ints)
+module _ (a b c d : ℤ) (ha : nat_abs a ≤ 128) (hb : nat_abs b ≤ 128) (hc : nat_abs c ≤ 128) (hd : nat_abs d ≤ 128) where
+  three : ℤ
+  three = to_z w32 (of_z w32 (to_z w32 (of_z w32 (to_z w32 (of_z w32 a) +ℤ to_z w32 (of_z w32 b))) +ℤ to_z w32 (of_z w32 c)))
 
-sum_small : (a b c d : ℤ) → nat_abs a ≤ 128 → nat_abs b ≤ 128 → nat_abs c ≤ 128 → nat_abs d ≤ 128 → nat_abs (a +ℤ b +ℤ c +ℤ d) ≤ 512
-sum_small a b c d ha hb hc hd = omega (arith, abs_sum (a +ℤ b +ℤ c) d, abs_sum (a +ℤ b) c, abs_sum a b)
+  sum_fits : SFits w32 (three +ℤ to_z w32 (of_z w32 d))
+  unfolding three
+  sum_fits = omega (arith, ints)
+
+  sum_is : to_z w32 (of_z w32 (three +ℤ to_z w32 (of_z w32 d))) ≡ a +ℤ b +ℤ c +ℤ d
+  unfolding three
+  sum_is = omega (arith, ints)
+
+  sum_small : nat_abs (to_z w32 (of_z w32 (three +ℤ to_z w32 (of_z w32 d)))) ≤ 512
+  sum_small = rw sum_is (omega (arith, abs_sum (a +ℤ b +ℤ c) d, abs_sum (a +ℤ b) c, abs_sum a b))
+
+pub overflow_add-result-3 : goal.overflow_add-result-3
+unfolding three
+overflow_add-result-3 c =
+    sum_fits c.signed.result c.signed-2.result c.signed-3.result c.signed-4.result c.signed.ensures.small c.signed-2.ensures.small c.signed-3.ensures.small c.signed-4.ensures.small
 
 pub returns-clause-value : goal.returns-clause-value
-unfolding correlation_of
+unfolding three correlation_of
 returns-clause-value c =
     let v = c.args.soft in
     let p = c.args.pattern in
@@ -32,9 +45,6 @@ returns-clause-value c =
     +ℤ (s2.value ∙ ap (sign_by (p / 4 % 2)) (to_z-of_z f2)) i +ℤ (s3.value ∙ ap (sign_by (p / 8 % 2)) (to_z-of_z f3)) i)
 
 pub returns-clause-small : goal.returns-clause-small
+unfolding three
 returns-clause-small c =
-    let s0 = c.signed.ensures.small in
-    let s1 = c.signed-2.ensures.small in
-    let s2 = c.signed-3.ensures.small in
-    let s3 = c.signed-4.ensures.small in
-    rw (sum_is c.signed.result c.signed-2.result c.signed-3.result c.signed-4.result s0 s1 s2 s3) (sum_small c.signed.result c.signed-2.result c.signed-3.result c.signed-4.result s0 s1 s2 s3)
+    sum_small c.signed.result c.signed-2.result c.signed-3.result c.signed-4.result c.signed.ensures.small c.signed-2.ensures.small c.signed-3.ensures.small c.signed-4.ensures.small
