@@ -3,15 +3,13 @@
 // incomplete symbol is dropped.
 #![tactic(auto)]
 
-ghost use Rattle.std.specs.Prelude.{◌≤◌};
-
 use fec_protection::Description;
-use msc_handler::Answer;
+use msc_handler::{Answer, Memory};
 use msc_state::State;
 use std::io::{Read, Write};
 
-// EEP 3-A, 96 kbit/s: a description counts EEP levels from 0.
-fn first_description() -> Description {
+const DESCRIPTIONS: [Description; 3] = [
+    // EEP 3-A, 96 kbit/s: a description counts EEP levels from 0.
     Description {
         start_addr: 0,
         sub_size: 72,
@@ -19,11 +17,8 @@ fn first_description() -> Description {
         protection_level: 2,
         eep_option: 0,
         is_eep: true,
-    }
-}
-
-// UEP level 3, 128 kbit/s.
-fn second_description() -> Description {
+    },
+    // UEP level 3, 128 kbit/s.
     Description {
         start_addr: 100,
         sub_size: 96,
@@ -31,11 +26,8 @@ fn second_description() -> Description {
         protection_level: 3,
         eep_option: 0,
         is_eep: false,
-    }
-}
-
-// EEP 3-B, 64 kbit/s.
-fn third_description() -> Description {
+    },
+    // EEP 3-B, 64 kbit/s.
     Description {
         start_addr: 300,
         sub_size: 36,
@@ -43,160 +35,76 @@ fn third_description() -> Description {
         protection_level: 2,
         eep_option: 1,
         is_eep: true,
-    }
-}
+    },
+];
 
-// Buffers for a symbol, for the three of a FIC, for a CIF, and for the largest of the three sub-channels.
-fn some_bytes() -> [u8; 3072] {
-    [0; 3072]
-}
-
-fn some_fic() -> [u8; 9216] {
-    [0; 9216]
-}
-
-fn some_values() -> [i8; 3072] {
-    [0; 3072]
-}
-
-fn some_cif() -> [i8; 55296] {
-    [0; 55296]
-}
-
-fn some_ring() -> [i8; 98304] {
-    [0; 98304]
-}
-
-fn some_deinterleaved() -> [i8; 6144] {
-    [0; 6144]
-}
-
-fn some_depunctured() -> [i8; 12312] {
-    [0; 12312]
-}
-
-fn some_words() -> [u64; 3078] {
-    [0; 3078]
-}
-
-fn some_bits() -> [u8; 3078] {
-    [0; 3078]
-}
-
-fn some_frame() -> [u8; 384] {
-    [0; 384]
-}
-
-fn start(d: Description, ring: &mut [i8]) -> State {
-    let set_up = msc_set_up::set_up(d, &mut *ring);
-    set_up.state
-}
-
-// How many bytes of a frame to write.
-fn bytes_in(answer: Answer) -> usize
-    ensures { result ≤ 384 }
-{
-    let Answer::Frame(n, _) = answer else {
-        return 0;
-    };
-    if n <= 384 { n } else { 0 }
-}
-
-// Writes the frame that came, if one did.
-fn say<W: Write>(output: &mut W, answer: Answer, frame: [u8; 384]) {
-    let n = bytes_in(answer);
-    let _ = output.write_all(&frame[0..n]);
-}
-
-// One symbol to one sub-channel; no work buffer holds anything from symbol to symbol.
-fn listen<W: Write>(
-    output: &mut W,
+// A sub-channel's state and its buffers that hold something from symbol to symbol; the ring has room for the largest of the three.
+#[derive(Drop)]
+struct Receiver {
     state: State,
-    soft: &[i8],
-    cif: &mut [i8],
-    ring: &mut [i8],
-) -> State {
-    let mut deinterleaved = some_deinterleaved();
-    let mut depunctured = some_depunctured();
-    let mut words = some_words();
-    let mut bits = some_bits();
-    let mut frame = some_frame();
-    let fed = msc_handler::feed_symbol(
-        state,
-        soft,
-        &mut *cif,
-        &mut *ring,
-        &mut deinterleaved,
-        &mut depunctured,
-        &mut words,
-        &mut bits,
-        &mut frame,
-    );
-    let answer = fed.answer;
-    say(output, answer, frame);
-    fed.state
+    cif: [i8; 55296],
+    ring: [i8; 98304],
 }
 
-// The FIC's three symbols, which stand before a transmission frame's 72 of the MSC.
-fn pass_fic<R: Read>(input: &mut R) {
-    let mut fic = some_fic();
-    let _ = byte_streams::read_full(input, &mut fic);
-}
-
-// The next symbol of the MSC: whether there was a whole one.
-fn next<R: Read>(input: &mut R, symbol: usize, soft: &mut [i8]) -> bool {
-    if symbol % 72 == 0 {
-        pass_fic(input);
+impl Receiver {
+    fn new(d: Description) -> Self {
+        let mut ring = [0; 98304];
+        let set_up = msc_set_up::set_up(d, &mut ring);
+        Receiver {
+            state: set_up.state,
+            cif: [0; 55296],
+            ring,
+        }
     }
-    let mut bytes = some_bytes();
+
+    // Takes a symbol, and writes the frame that came, if one did.
+    fn listen<W: Write>(&mut self, soft: &[i8], output: &mut W) {
+        let mut frame = [0; 384];
+        let mut memory = Memory {
+            cif: &mut self.cif,
+            ring: &mut self.ring,
+            deinterleaved: &mut [0; 6144],
+            depunctured: &mut [0; 12312],
+            words: &mut [0; 3078],
+            bits: &mut [0; 3078],
+            frame: &mut frame,
+        };
+        let fed = msc_handler::feed_symbol(self.state, soft, &mut memory);
+        self.state = fed.state;
+        if let Answer::Frame(n, _) = fed.answer
+            && n <= 384
+        {
+            let _ = output.write_all(&frame[..n]);
+        }
+    }
+}
+
+// The next symbol of the MSC, if there is a whole one; the FIC's three symbols stand before a transmission frame's 72 of the MSC.
+fn next<R: Read>(input: &mut R, symbol: usize) -> Option<[i8; 3072]> {
+    if symbol % 72 == 0 {
+        let _ = byte_streams::read_full(input, &mut [0; 9216]);
+    }
+    let mut bytes = [0; 3072];
     let (got, _) = byte_streams::read_full(input, &mut bytes);
-    soft_bytes::convert(&bytes, &mut *soft);
-    got == 3072
+    if got < 3072 {
+        return None;
+    }
+    let mut soft = [0; 3072];
+    soft_bytes::convert(&bytes, &mut soft);
+    Some(soft)
 }
 
 // Every symbol of the MSC in five transmission frames.
-fn run<R: Read, W: Write>(
-    input: &mut R,
-    output: &mut W,
-    soft: &mut [i8],
-    cif1: &mut [i8],
-    cif2: &mut [i8],
-    cif3: &mut [i8],
-    ring1: &mut [i8],
-    ring2: &mut [i8],
-    ring3: &mut [i8],
-) {
-    let mut first = start(first_description(), &mut *ring1);
-    let mut second = start(second_description(), &mut *ring2);
-    let mut third = start(third_description(), &mut *ring3);
-    let mut symbol: usize = 0;
-    while symbol < 360 && next(input, symbol, &mut *soft) {
-        first = listen(output, first, &*soft, &mut *cif1, &mut *ring1);
-        second = listen(output, second, &*soft, &mut *cif2, &mut *ring2);
-        third = listen(output, third, &*soft, &mut *cif3, &mut *ring3);
-        symbol += 1;
-    }
-}
-
 fn main(rt: HostRuntime) {
     let mut input = rt.stdin();
     let mut output = rt.stdout();
-    let mut soft = some_values();
-    let mut cif1 = some_cif();
-    let mut cif2 = some_cif();
-    let mut cif3 = some_cif();
-    let mut ring1 = some_ring();
-    let mut ring2 = some_ring();
-    let mut ring3 = some_ring();
-    run(
-        &mut input,
-        &mut output,
-        &mut soft,
-        &mut cif1,
-        &mut cif2,
-        &mut cif3,
-        &mut ring1,
-        &mut ring2,
-        &mut ring3,
-    );
+    let mut receivers = DESCRIPTIONS.map(Receiver::new);
+    for symbol in 0..360 {
+        let Some(soft) = next(&mut input, symbol) else {
+            break;
+        };
+        for receiver in &mut receivers {
+            receiver.listen(&soft, &mut output);
+        }
+    }
 }
