@@ -1,298 +1,187 @@
 // Document 01's cases, and those that it says are run and compared: each on the real functions, one line each with what came out.
 #![tactic(auto)]
 
-ghost use Rattle.std.specs.Prelude.{◌≡◌, ◌+◌, ◌≤◌, ◌<◌};
+use fec_protection::Description;
+use fec_viterbi::Score;
+use refusal::Refusal;
+use std::fmt;
 
-use fec_protection::{Description, Judged, Size};
-use fec_viterbi::Decoding;
+// Bits one behind the other; `none` where there are none.
+#[derive(Clone, Copy)]
+struct Bits<'a>(&'a [u8]);
 
-fn say(rt: &impl Print, text: &[u8]) {
-    let _ = rt.write_all(text);
-}
-
-fn say_number(rt: &impl Print, n: u64) {
-    let _ = print!(rt; "{n}");
-}
-
-fn wide(x: i32) -> i64
-    ensures { result ≡ x }
-{
-    x as i64
-}
-
-// A metric's distance from 0.
-fn size_of(metric: i32) -> u64 {
-    let m = wide(metric);
-    if m < 0 { (0 - m) as u64 } else { m as u64 }
-}
-
-fn say_metric(rt: &impl Print, metric: i32) {
-    if metric < 0 {
-        say(rt, b"-");
-    }
-    say_number(rt, size_of(metric));
-}
-
-fn say_value(rt: &impl Print, value: u8) {
-    say_number(rt, value as u64);
-}
-
-fn say_values(rt: &impl Print, values: &[u8]) {
-    let mut i: usize = 0;
-    while i < values.len() {
-        say_value(rt, values[i]);
-        i += 1;
+impl fmt::Display for Bits<'_> {
+    fn fmt<W: fmt::Write>(&self, f: &mut fmt::Formatter<W>) -> fmt::Result {
+        let bits = self.0;
+        if bits.is_empty() {
+            return f.write_str("none");
+        }
+        for bit in bits {
+            write!(f, "{bit}")?;
+        }
+        Ok(())
     }
 }
 
-fn say_bits(rt: &impl Print, bits: &[u8]) {
-    if bits.len() == 0 {
-        say(rt, b"none");
-    }
-    say_values(rt, bits);
-}
+// A value, or the number of the refusal in its place.
+#[derive(Clone, Copy)]
+struct Told<T>(Result<T, Refusal>);
 
-fn say_refusal(rt: &impl Print, number: u8) {
-    say(rt, b"refusal ");
-    say_number(rt, number as u64);
-}
-
-// What a decoder answered: bits and metric.
-fn say_decoding(rt: &impl Print, answer: Decoding, bits: &[u8]) {
-    match answer {
-        Decoding::Refused(r) => say_refusal(rt, r.number),
-        Decoding::Done(s) => {
-            say(rt, b"bits ");
-            say_bits(rt, bits);
-            say(rt, b", metric ");
-            say_metric(rt, s.metric);
+impl<T: fmt::Display> fmt::Display for Told<T> {
+    fn fmt<W: fmt::Write>(&self, f: &mut fmt::Formatter<W>) -> fmt::Result {
+        match &self.0 {
+            Ok(value) => write!(f, "{value}"),
+            Err(refusal) => write!(f, "refusal {}", refusal.number()),
         }
     }
 }
 
-// The metric alone, of many steps.
-fn say_score(rt: &impl Print, answer: Decoding) {
-    match answer {
-        Decoding::Refused(r) => say_refusal(rt, r.number),
-        Decoding::Done(s) => say_metric(rt, s.metric),
+fn metric(decoding: Result<Score, Refusal>) -> Told<i32> {
+    Told(decoding.map(|score| score.metric))
+}
+
+// Where the path of a decoder ends.
+#[derive(Clone, Copy)]
+enum End {
+    State0,
+    Free,
+}
+
+impl fmt::Display for End {
+    fn fmt<W: fmt::Write>(&self, f: &mut fmt::Formatter<W>) -> fmt::Result {
+        f.write_str(match self {
+            End::State0 => "state 0",
+            End::Free => "free end",
+        })
     }
 }
 
-// None or one: as many as the buffers below hold.
-fn steps(soft: &[i8]) -> usize
-    ensures { result ≤ 1 }
-{
-    if soft.len() < 4 { 0 } else { 1 }
-}
-
-// Up to one step of the state-0 decoder: the path into state 0 starts in state 0 or, where bit 0 of the word is 1, in state 32.
-fn state0(rt: &impl Print, name: &[u8], soft: &[i8]) {
-    let mut words = [0u64; 1];
-    let mut bits = [0u8; 1];
-    let answer = fec_viterbi::viterbi_decode_state0(soft, &mut words, &mut bits);
-    say(rt, name);
-    let n = steps(soft);
-    say_decoding(rt, answer, &bits[..n]);
-    if n == 1 {
-        say(rt, b", from state ");
-        say_number(rt, words[0] % 2 * 32);
-    }
-    say(rt, b"\n");
-}
-
-// Up to one step of the free-end decoder.
-fn free(rt: &impl Print, name: &[u8], soft: &[i8]) {
-    let mut words = [0u64; 1];
-    let mut bits = [0u8; 1];
-    let answer = fec_viterbi::viterbi_decode_with_metric(soft, &mut words, &mut bits);
-    say(rt, name);
-    let n = steps(soft);
-    say_decoding(rt, answer, &bits[..n]);
-    say(rt, b"\n");
+// None or one step. The path into state 0 starts in state 0 or, where bit 0 of the word is 1, in state 32.
+fn print_step(rt: &impl Print, name: &str, end: End, soft: &[i8]) {
+    let mut words = [0; 1];
+    let mut bits = [0; 1];
+    let decoding = match end {
+        End::State0 => fec_viterbi::viterbi_decode_state0(soft, &mut words, &mut bits),
+        End::Free => fec_viterbi::viterbi_decode_with_metric(soft, &mut words, &mut bits),
+    };
+    let metric = metric(decoding);
+    let steps = (soft.len() / 4).min(1);
+    let bits = Bits(&bits[..steps]);
+    let from = words[0] % 2 * 32;
+    let _ = match end {
+        End::State0 if steps == 1 => {
+            println!(rt; "{name}, {end}: bits {bits}, metric {metric}, from state {from}")
+        }
+        _ => println!(rt; "{name}, {end}: bits {bits}, metric {metric}"),
+    };
 }
 
 // Up to 197 steps by both decoders.
-fn metrics(rt: &impl Print, name: &[u8], soft: &[i8]) {
-    let mut words = [0u64; 197];
-    let mut bits = [0u8; 197];
-    say(rt, name);
-    say_score(
-        rt,
-        fec_viterbi::viterbi_decode_state0(soft, &mut words, &mut bits),
-    );
-    say(rt, b" and ");
-    say_score(
-        rt,
-        fec_viterbi::viterbi_decode_with_metric(soft, &mut words, &mut bits),
-    );
-    say(rt, b"\n");
+fn print_metrics(rt: &impl Print, name: &str, soft: &[i8]) {
+    let mut words = [0; 197];
+    let mut bits = [0; 197];
+    let state0 = metric(fec_viterbi::viterbi_decode_state0(soft, &mut words, &mut bits));
+    let free_end = metric(fec_viterbi::viterbi_decode_with_metric(soft, &mut words, &mut bits));
+    let _ = println!(rt; "{name}, metrics: {state0} and {free_end}");
 }
 
-// 780 values of -128, then four of the last value.
-fn one_hundred_thousand(rt: &impl Print, name: &[u8], last: i8) {
-    let mut soft = [-128i8; 784];
-    soft[780] = last;
-    soft[781] = last;
-    soft[782] = last;
-    soft[783] = last;
-    metrics(rt, name, &soft);
+fn print_judged(rt: &impl Print, name: &str, d: Description) {
+    let units = d.sub_size;
+    let judged = Told(fec_protection::judge(d).map(|()| "accepted"));
+    let _ = match fec_protection::needed_size(d) {
+        Ok(n) => println!(rt; "{name}: {units} units for {n} values: {judged}"),
+        Err(_) => println!(rt; "{name}: {units} units for no row: {judged}"),
+    };
 }
 
-fn dispersed(rt: &impl Print, name: &[u8]) {
-    let mut bits = [0u8; 16];
-    fec_dispersal::energy_dispersal(&mut bits);
-    say(rt, name);
-    say_values(rt, &bits);
-    say(rt, b"\n");
+// How many entries of the table, four for each register, are what the rule gives. The register is twice the state and the bit that enters.
+fn held() -> usize {
+    let outputs = fec_branch_outputs::branch_outputs();
+    let entries = outputs.as_flattened().as_flattened();
+    let masks = [0x6d, 0x4f, 0x53, 0x6d];
+    (0u32..)
+        .zip(entries)
+        .filter(|(k, output)| {
+            let mask = masks[(k % 4) as usize];
+            u32::from(**output) == fec_viterbi::parity_of(k / 4, mask)
+        })
+        .count()
 }
 
-fn eep(option: u8, level: u8, bitrate: u16, start: u16, size: u16) -> Description {
+fn eep(level: u8, bitrate: u16, start: u16, size: u16) -> Description {
     Description {
         start_addr: start,
         sub_size: size,
-        bitrate: bitrate,
+        bitrate,
         protection_level: level,
-        eep_option: option,
+        eep_option: 0,
         is_eep: true,
     }
 }
 
-fn uep(level: u8, bitrate: u16, start: u16, size: u16) -> Description {
+fn uep(level: u8, bitrate: u16, size: u16) -> Description {
     Description {
-        start_addr: start,
+        start_addr: 0,
         sub_size: size,
-        bitrate: bitrate,
+        bitrate,
         protection_level: level,
         eep_option: 0,
         is_eep: false,
     }
 }
 
-fn say_needed(rt: &impl Print, d: Description) {
-    let size = fec_protection::needed_size(d);
-    match size {
-        Size::Refused(r) => say(rt, b"no row"),
-        Size::Values(n) => {
-            say_number(rt, n as u64);
-            say(rt, b" values");
-        }
-    }
-}
-
-fn say_judged(rt: &impl Print, d: Description) {
-    let answer = fec_protection::judge(d);
-    match answer {
-        Judged::Refused(r) => say_refusal(rt, r.number),
-        Judged::Accepted => say(rt, b"accepted"),
-    }
-}
-
-fn judged(rt: &impl Print, name: &[u8], d: Description) {
-    say(rt, name);
-    say_number(rt, d.sub_size as u64);
-    say(rt, b" units for ");
-    say_needed(rt, d);
-    say(rt, b": ");
-    say_judged(rt, d);
-    say(rt, b"\n");
-}
-
-// The register's mask of an output.
-fn mask(g: usize) -> u32 {
-    match g {
-        0 => 0x6d,
-        1 => 0x4f,
-        2 => 0x53,
-        _ => 0x6d,
-    }
-}
-
-fn as_output(entry: u8) -> u32 {
-    entry as u32
-}
-
-// Whether the table's entry is what the rule gives.
-fn is_output(outputs: &[[[u8; 4]; 2]; 64], s: usize, b: usize, g: usize) -> bool
-    requires { (s < 64) × (b < 2) × (g < 4) }
-{
-    as_output(outputs[s][b][g]) == fec_viterbi::parity_of((2 * s + b) as u32, mask(g))
-}
-
-fn held(outputs: &[[[u8; 4]; 2]; 64]) -> u64 {
-    let mut n: u64 = 0;
-    let mut k: usize = 0;
-    while k < 512 {
-        if is_output(outputs, k / 8, k / 4 % 2, k % 4) {
-            n += 1;
-        }
-        k += 1;
-    }
-    n
-}
-
-fn table(rt: &impl Print, name: &[u8]) {
-    let outputs = fec_branch_outputs::branch_outputs();
-    say(rt, name);
-    say_number(rt, held(&outputs));
-    say(rt, b" of 512 are the rule's\n");
-}
-
-fn cases_1_to_4(rt: &impl Print) {
-    let none = [0i8; 0];
-    state0(rt, b"1, state 0: ", &none);
-    free(rt, b"1, free end: ", &none);
-    state0(rt, b"2, 10,10,10,10, state 0: ", &[10i8, 10, 10, 10]);
-    free(rt, b"3, 10,10,10,10, free end: ", &[10i8, 10, 10, 10]);
-    state0(rt, b"4, 8,8,8,7, state 0: ", &[8i8, 8, 8, 7]);
-}
-
-fn cases_5_to_8(rt: &impl Print) {
-    state0(rt, b"5, 8,8,8,8, state 0: ", &[8i8; 4]);
-    state0(rt, b"6, four of -128, state 0: ", &[-128i8; 4]);
-    free(rt, b"6, four of -128, free end: ", &[-128i8; 4]);
-    free(rt, b"7, four zeros, free end: ", &[0i8; 4]);
-    dispersed(rt, b"8, 16 zeros dispersed: ");
-}
-
-fn cases_9_to_12(rt: &impl Print) {
-    judged(
-        rt,
-        b"9, EEP option 0 level 3, 8 kbit/s, start 860: ",
-        eep(0, 3, 8, 860, 4),
-    );
-    judged(
-        rt,
-        b"10, EEP option 0 level 3, 8 kbit/s, start 861: ",
-        eep(0, 3, 8, 861, 4),
-    );
-    judged(rt, b"11, UEP 384 level 1: ", uep(1, 384, 0, 416));
-    judged(rt, b"12, UEP 384 level 1: ", uep(1, 384, 0, 417));
-}
-
-// What is subtracted shows from the 196th step on.
-fn many_steps(rt: &impl Print) {
-    metrics(rt, b"780 of -128, metrics: ", &[-128i8; 780]);
-    metrics(rt, b"784 of -128, metrics: ", &[-128i8; 784]);
-    metrics(rt, b"788 of -128, metrics: ", &[-128i8; 788]);
-    one_hundred_thousand(rt, b"780 of -128 and four of -40, metrics: ", -40);
-    one_hundred_thousand(rt, b"780 of -128 and four of -41, metrics: ", -41);
-}
-
-fn more_descriptions(rt: &impl Print) {
-    judged(rt, b"UEP 32 level 1: ", uep(1, 32, 0, 35));
-    judged(rt, b"EEP option 0 level 1, 8 kbit/s: ", eep(0, 1, 8, 0, 8));
-    judged(
-        rt,
-        b"EEP option 0 level 1, 16 kbit/s: ",
-        eep(0, 1, 16, 0, 16),
-    );
-}
-
 fn main(rt: HostRuntime) {
-    cases_1_to_4(&rt);
-    cases_5_to_8(&rt);
-    cases_9_to_12(&rt);
-    many_steps(&rt);
-    more_descriptions(&rt);
-    table(&rt, b"branch outputs: ");
+    let steps: [(&str, End, &[i8]); 9] = [
+        ("1", End::State0, &[]),
+        ("1", End::Free, &[]),
+        ("2, 10,10,10,10", End::State0, &[10; 4]),
+        ("3, 10,10,10,10", End::Free, &[10; 4]),
+        ("4, 8,8,8,7", End::State0, &[8, 8, 8, 7]),
+        ("5, 8,8,8,8", End::State0, &[8; 4]),
+        ("6, four of -128", End::State0, &[-128; 4]),
+        ("6, four of -128", End::Free, &[-128; 4]),
+        ("7, four zeros", End::Free, &[0; 4]),
+    ];
+    for (name, end, soft) in steps {
+        print_step(&rt, name, end, soft);
+    }
+    let mut bits = [0; 16];
+    fec_dispersal::energy_dispersal(&mut bits);
+    let dispersed = Bits(&bits);
+    let _ = println!(rt; "8, 16 zeros dispersed: {dispersed}");
+    for (name, d) in [
+        (
+            "9, EEP option 0 level 3, 8 kbit/s, start 860",
+            eep(3, 8, 860, 4),
+        ),
+        (
+            "10, EEP option 0 level 3, 8 kbit/s, start 861",
+            eep(3, 8, 861, 4),
+        ),
+        ("11, UEP 384 level 1", uep(1, 384, 416)),
+        ("12, UEP 384 level 1", uep(1, 384, 417)),
+    ] {
+        print_judged(&rt, name, d);
+    }
+    // 780 of -128, and behind them this value; what is subtracted shows from the 196th step on.
+    for (name, n, last) in [
+        ("780 of -128", 780, -128),
+        ("784 of -128", 784, -128),
+        ("788 of -128", 788, -128),
+        ("780 of -128 and four of -40", 784, -40),
+        ("780 of -128 and four of -41", 784, -41),
+    ] {
+        let mut soft = [-128; 788];
+        soft[780..].fill(last);
+        print_metrics(&rt, name, &soft[..n.min(788)]);
+    }
+    for (name, d) in [
+        ("UEP 32 level 1", uep(1, 32, 35)),
+        ("EEP option 0 level 1, 8 kbit/s", eep(1, 8, 0, 8)),
+        ("EEP option 0 level 1, 16 kbit/s", eep(1, 16, 0, 16)),
+    ] {
+        print_judged(&rt, name, d);
+    }
+    let held = held();
+    let _ = println!(rt; "branch outputs: {held} of 512 are the rule's");
 }
