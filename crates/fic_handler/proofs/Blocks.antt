@@ -2,21 +2,22 @@
 -- Assumes nothing.
 use mathlib.Core.Path.{◌≡◌, ap, ◌∙◌, subst}
 use mathlib.Core.Bool.{Bool}
-use mathlib.Core.List.{List, ◌++◌, append_assoc}
+use mathlib.Core.List.{List, [], ◌++◌, append_assoc, append-nil}
 use Prim.Native.Nat.{ℕ, ◌*◌, ◌≤◌}
 use native.Mathlib.Omega.{arith}
 use borrow.Author.Tests.{le-ltb}
 use lib.IntN.{ℤ}
 use lib.ListN.{length, take, drop}
-use lib.Seq.{take_at, length-take-le}
+use lib.Seq.{take_at, length-take-le, drop-length}
 use Rattle.laws.specs.Bits.{AreBits}
 use Rattle.laws.proofs.Bits.{below-take}
 use Rattle.spec_en300401.specs.Puncturing.{mask, depuncture, fic_profile}
 use Rattle.spec_trellis.specs.Trellis.{zero_end}
 use Rattle.spec_en300401.proofs.Dispersal.{disperse-length, disperse-bits}
 use Rattle.spec_en300401.proofs.Puncturing.{length-depuncture, fic-length}
+use Rattle.std.specs.Prelude.{Result}
+use Rattle.refusal.specs.declared.Refusal.{Refusal}
 use Rattle.refusal.specs.Outcome.{check, unless_refused}
-use Rattle.fec_protection.specs.declared.Judged.{Judged}
 use Rattle.fec_depuncturing.specs.Promises.{DepuncturedFic}
 use Rattle.fec_quality.specs.declared.Quality.{Quality}
 use Rattle.fec_quality.specs.Figures.{quality_of}
@@ -32,11 +33,12 @@ restored values = depuncture (mask fic_profile) values
 pub restored_length : (values : List ℤ) → length (restored values) ≡ 3096
 restored_length values = length-depuncture (mask fic_profile) values ∙ fic-length
 
-pub depunctured-is : (values before after : List ℤ) (r : Judged) → 3096 ≤ length before → DepuncturedFic values before after r → after ≡ restored values ++ drop 3096 before
+pub depunctured-is : (values before after : List ℤ) (r : Result (Unit {0}) Refusal) → 3096 ≤ length before → DepuncturedFic values before after r → after ≡ restored values ++ drop 3096 before
 depunctured-is values before after r h p = p.places ∙ ap (λ (t : Bool). unless_refused (check 8 t) (restored values ++ drop 3096 before) before) (le-ltb (length before) 3096 h)
 
-pub front_is : (values before after : List ℤ) → after ≡ restored values ++ drop 3096 before → take 3096 after ≡ restored values
-front_is values before after e = ap (take 3096) e ∙ take_at (restored values) (drop 3096 before) 3096 (restored_length values)
+pub whole_is : (values before after : List ℤ) → length before ≡ 3096 → after ≡ restored values ++ drop 3096 before → after ≡ restored values
+whole_is values before after h e =
+    e ∙ ap (λ (l : List ℤ). restored values ++ l) (subst (λ (n : ℕ). drop n before ≡ []) h (drop-length before)) ∙ append-nil (restored values)
 
 pub data_length : {xs : List ℤ} {decoded : List ℕ} {m : ℤ} → Decodes zero_end xs 774 decoded m → length (data_bits decoded) ≡ 768
 unfolding data_bits
@@ -53,11 +55,11 @@ data_front {bits = bits} b =
     ∙ take_at (data_bits b.block.decoded) (drop 768 b.block.decoded ++ drop 774 bits) 768 (data_length b.decodes)
 
 -- depuncturing, decoding and keeping the FIBs of a block, put together
-pub block_done : (values : List ℤ) (before after : Buffers) (r : Judged) (q : Quality) (k : ℕ) → 3096 ≤ length before.depunctured → DepuncturedFic values before.depunctured after.depunctured r
-    → (b : BlockDecoded (take 3096 after.depunctured) before.words before.bits q after.words after.bits) → KeptFibs (take 768 after.bits) 3 before.fibs k after.fibs → BlockProcessed values before k q after
+pub block_done : (values : List ℤ) (before after : Buffers) (r : Result (Unit {0}) Refusal) (q : Quality) (k : ℕ) → length before.depunctured ≡ 3096 → DepuncturedFic values before.depunctured after.depunctured r
+    → (b : BlockDecoded after.depunctured before.words before.bits q after.words after.bits) → KeptFibs (take 768 after.bits) 3 before.fibs k after.fibs → BlockProcessed values before k q after
 block_done values before after r q k h p b f =
-    let d = depunctured-is values before.depunctured after.depunctured r h p in
-    let e = front_is values before.depunctured after.depunctured d in
+    let d = depunctured-is values before.depunctured after.depunctured r (omega arith) p in
+    let e = whole_is values before.depunctured after.depunctured h d in
     let g = data_front b in
     record {
       block = b.block;

@@ -6,15 +6,21 @@ use mathlib.Core.List.{List, [], ◌++◌, append_assoc, append-nil}
 use Prim.Native.Nat.{ℕ, zero, suc, ◌+◌, ◌*◌, ◌<◌, ◌≤◌}
 use native.Mathlib.Omega.{arith}
 use native.Mathlib.Numerals.{add-one}
-use lib.ListN.{length, take, drop, length-append, length-take, length-drop}
+use lib.ListN.{length, get_or, take, drop, length-append, length-take, length-drop}
+use Rattle.std.specs.Simd.{first_chunks}
 use lib.Seq.{take_at, drop_at, drop-drop}
 use Rattle.laws.specs.Words.{pick_n}
 use Rattle.laws.proofs.Words.{bit_lt}
 use Rattle.spec_en300401.specs.Bytes.{bytes_of_bits}
-use Rattle.spec_en300401.specs.Crc.{fib_valid}
 use Rattle.spec_en300401.proofs.Bytes.{bytes-length}
 use Rattle.fic_handler.specs.Blocks.{fib_of, good, passed_bytes, count_of}
-use Rattle.fic_handler.specs.Code.{KeptFib, KeptFibs}
+use Rattle.fic_handler.specs.Code.{KeptFibs}
+
+-- one of the chunks that a list is cut into
+pub chunk_at : {X : Type 0} (n k : ℕ) (xs : List X) (i : ℕ) → i < k → get_or (first_chunks n k xs) i [] ≡ take n (drop (n * i) xs)
+chunk_at n zero xs i h = absurd (omega arith)
+chunk_at {X} n (suc k) xs zero h = let e : 0 ≡ n * 0 = omega arith in ap (λ (m : ℕ). take n (drop m xs)) e
+chunk_at {X} n (suc k) xs (suc i) h = let e : n + n * i ≡ n * suc i = omega arith in chunk_at n k (drop n xs) i (omega arith) ∙ ap (take n) (drop-drop (n * i) n xs ∙ ap (λ (m : ℕ). drop m xs) e)
 
 pub fib-length : (bits : List ℕ) (j : ℕ) → length bits ≡ 768 → j < 3 → length (fib_of bits j) ≡ 256
 fib-length bits j e h = simp (length-take, length-drop) (omega arith)
@@ -35,16 +41,14 @@ passed_length bits (suc n) e h =
     one true r = omega (arith, bytes-length (fib_of bits n), fib-length bits n e h)
     one false r = omega arith
 
-pub kept-lt : {bits before after : List ℕ} {k : ℕ} → KeptFib bits before k after → k < 2
-kept-lt {bits} v = omega (arith, v.kept_is, bit_lt (fib_valid bits))
-
 -- one FIB more: the part from byte 32 kept on has it at its start if it passed
-pub kept_next : {bits before after new : List ℕ} {j kept k : ℕ} → length bits ≡ 768 → j < 3 → KeptFibs bits j before kept after → KeptFib (fib_of bits j) (drop (32 * kept) after) k new → KeptFibs bits (j + 1) before (kept + k) (take (32 * kept) after ++ new)
+pub kept_next : {bits before after new : List ℕ} {j kept k : ℕ} → length bits ≡ 768 → j < 3 → KeptFibs bits j before kept after → k ≡ pick_n (good bits j) 1 0
+    → new ≡ cond (good bits j) (bytes_of_bits (fib_of bits j) ++ drop 32 (drop (32 * kept) after)) (drop (32 * kept) after) → KeptFibs bits (j + 1) before (kept + k) (take (32 * kept) after ++ new)
 unfolding passed_bytes count_of
-kept_next {bits} {before} {after} {new} {j} {kept} {k} e h v w =
+kept_next {bits} {before} {after} {new} {j} {kept} {k} e h v count bytes =
     record {
-      kept_is = ap₂ (λ (a b : ℕ). a + b) v.kept_is w.kept_is ∙ ap (count_of bits) (sym (add-one j));
-      bytes = ap₂ (λ (a b : List ℕ). a ++ b) front (w.bytes ∙ ap (λ (r : List ℕ). cond (good bits j) (bytes_of_bits (fib_of bits j) ++ drop 32 r) r) back) ∙ one (good bits j) w.kept_is ∙ ap (λ (n : ℕ). passed_bytes bits n ++ drop (32 * (kept + k)) before) (sym (add-one j));
+      kept_is = ap₂ (λ (a b : ℕ). a + b) v.kept_is count ∙ ap (count_of bits) (sym (add-one j));
+      bytes = ap₂ (λ (a b : List ℕ). a ++ b) front (bytes ∙ ap (λ (r : List ℕ). cond (good bits j) (bytes_of_bits (fib_of bits j) ++ drop 32 r) r) back) ∙ one (good bits j) count ∙ ap (λ (n : ℕ). passed_bytes bits n ++ drop (32 * (kept + k)) before) (sym (add-one j));
     }
   where
     long : length (passed_bytes bits j) ≡ 32 * kept

@@ -1,15 +1,17 @@
 -- The refusals of `process_fic`, from its tests in document 01's order.
 -- Assumes nothing.
-use mathlib.Core.Path.{◌≡◌, refl, sym, ap, ◌∙◌, subst}
-use mathlib.Core.List.{List}
+use mathlib.Core.Path.{◌≡◌, sym, ap, ◌∙◌, subst}
+use mathlib.Core.List.{List, []}
+use Rattle.std.specs.Prelude.{Result}
 use Prim.Native.Nat.{ℕ, suc, ◌*◌, ◌<◌, ◌≤◌}
 use borrow.Author.Tests.{lt-ltb, le-ltb}
 use lib.IntN.{ℤ}
 use lib.ListN.{length}
-use Rattle.refusal.specs.Outcome.{outcome}
+use Rattle.refusal.specs.declared.Refusal.{Refusal}
+use Rattle.refusal.specs.Outcome.{gives, refuses, outcome, told}
 use Rattle.fic_handler.specs.declared.Fic.{Fic}
-use Rattle.fic_handler.specs.Blocks.{joined, blocks_in, Buffers, total}
-use Rattle.fic_handler.specs.Promise.{too_long, too_few, process_refusal, Away, Outcomes, Processed, FicPromise}
+use Rattle.fic_handler.specs.Blocks.{joined, blocks_in, Buffers}
+use Rattle.fic_handler.specs.Promise.{too_long, too_few, process_refusal, Outcomes, Processed, FicPromise}
 
 module _ (s1 s2 s3 : List ℤ) (l : Buffers) where
   pub first-long : 3072 < length s1 → process_refusal s1 s2 s3 l ≡ 11
@@ -45,21 +47,21 @@ module _ (s1 s2 s3 : List ℤ) (l : Buffers) where
     unfolding process_refusal too_long too_few
     no_refusal d w e f = simp (le-ltb _ _ a, le-ltb _ _ b, le-ltb _ _ c, le-ltb _ _ d, le-ltb _ _ w, le-ltb _ _ e, le-ltb _ _ f)
 
-  pub away : {k : ℕ} {r : Fic} → process_refusal s1 s2 s3 l ≡ suc k → Away (suc k) r → FicPromise s1 s2 s3 l r l
+  pub away : {k : ℕ} {r : Result Fic Refusal} {after : Buffers} → process_refusal s1 s2 s3 l ≡ suc k → told r ≡ refuses (suc k) → after ≡ l → FicPromise s1 s2 s3 l r after
   unfolding Outcomes
-  away {k} {r} e p =
+  away {k} {r} {after} e p same =
+      let none : Fic = record { fibs = 0; passed = []; quality = [] } in
       record {
-        fibs = 0;
-        answer = p.answer ∙ ap (λ (n : ℕ). outcome n 0) (sym e);
-        outcome = subst (λ (n : ℕ). Outcomes n (joined s1 s2 s3) l r l) (sym e) (p, refl);
+        fic = none;
+        answer = p ∙ ap (λ (n : ℕ). outcome n none) (sym e);
+        outcome = subst (λ (n : ℕ). Outcomes n (joined s1 s2 s3) l none after) (sym e) same;
       }
 
-  pub done : {r : Fic} {after : Buffers} → process_refusal s1 s2 s3 l ≡ 0 → Processed (joined s1 s2 s3) (blocks_in (joined s1 s2 s3)) l r after → FicPromise s1 s2 s3 l r after
+  pub done : {fic : Fic} {r : Result Fic Refusal} {after : Buffers} → process_refusal s1 s2 s3 l ≡ 0 → told r ≡ gives fic → Processed (joined s1 s2 s3) (blocks_in (joined s1 s2 s3)) l fic after → FicPromise s1 s2 s3 l r after
   unfolding Outcomes
-  done {r} {after} e p =
-      let fibs : ℕ = total p.block (blocks_in (joined s1 s2 s3)) in
+  done {fic} {r} {after} e p h =
       record {
-        fibs = fibs;
-        answer = p.answer ∙ ap (λ (n : ℕ). outcome n fibs) (sym e);
-        outcome = subst (λ (n : ℕ). Outcomes n (joined s1 s2 s3) l r after) (sym e) p;
+        fic = fic;
+        answer = p ∙ ap (λ (n : ℕ). outcome n fic) (sym e);
+        outcome = subst (λ (n : ℕ). Outcomes n (joined s1 s2 s3) l fic after) (sym e) h;
       }

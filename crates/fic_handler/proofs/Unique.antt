@@ -10,26 +10,18 @@ use lib.Dec.{ltb}
 use lib.IntN.{ℤ}
 use lib.ListN.{drop}
 use Rattle.laws.specs.Lists.{list_from}
-use Rattle.refusal.specs.Outcome.{gives}
+use Rattle.refusal.specs.Outcome.{Outcome, outcome}
+use Rattle.refusal.proofs.Told.{told_one}
 use Rattle.fec_quality.specs.Figures.{quality_of, nothing}
 use Rattle.fec_viterbi.proofs.Result.{bits-one, metric-one, words-one}
 use Rattle.fic_handler.specs.declared.Fic.{Fic}
-use Rattle.fic_handler.specs.declared.FicAnswer.{FicAnswer}
-use Rattle.fic_handler.specs.declared.FicAnswer.TheVariants.{Fibs, Refused}
 use Rattle.fic_handler.specs.Blocks.{joined, depunctured_block, data_bits, count_of, Block, IsBlock, Buffers, fic_buffers, total}
-use Rattle.fic_handler.specs.Promise.{answer_of, four, work_after, process_refusal, Processed, Outcomes}
-use Rattle.fic_handler.specs.Theorems.{SameFic, FicUnique}
+use Rattle.fic_handler.specs.Promise.{four, work_after, process_refusal, Processed, Outcomes}
+use Rattle.fic_handler.specs.Theorems.{FicUnique}
 use Rattle.fic_handler.proofs.Run.{total_ext, written_ext}
 
--- an answer is one by what it says
-answer-one : (a b : FicAnswer) → answer_of a ≡ answer_of b → a ≡ b
-answer-one (Fibs m) (Fibs n) e = ap Fibs (cc)
-answer-one (Fibs m) (Refused s) e = let z : ◌≡◌ {A = ℕ} 0 1 = cc in absurd (omega arith)
-answer-one (Refused r) (Fibs n) e = let z : ◌≡◌ {A = ℕ} 0 1 = cc in absurd (omega arith)
-answer-one (Refused r) (Refused s) e = ap (λ (k : ℕ). Refused (record { number = k })) (let z : r.number ≡ s.number = cc in z)
-
-fic-one : (r s : Fic) → r.answer ≡ s.answer → r.passed ≡ s.passed → r.quality ≡ s.quality → r ≡ s
-fic-one r s a p q = λ i. record { answer = a i; passed = p i; quality = q i }
+fic-one : (r s : Fic) → r.fibs ≡ s.fibs → r.passed ≡ s.passed → r.quality ≡ s.quality → r ≡ s
+fic-one r s a p q = λ i. record { fibs = a i; passed = p i; quality = q i }
 
 block_one : {xs : List ℤ} {b : ℕ} {k l : Block} → IsBlock xs b k → IsBlock xs b l → k ≡ l
 block_one {k = k} {l} f g =
@@ -55,11 +47,16 @@ work_ext xs k l (suc n) before h =
     (λ (x : Block). fic_buffers (depunctured_block xs n ++ drop 3096 before.depunctured) (x.choices ++ drop 774 before.words) ((data_bits x.decoded ++ drop 768 x.decoded) ++ drop 774 before.bits) before.fibs)
     (h n (omega arith))
 
-processed-one : {xs : List ℤ} {n : ℕ} {before : Buffers} {r s : Fic} {after also : Buffers} → Processed xs n before r after → Processed xs n before s also → SameFic r after s also
+-- two outcomes of some whole blocks
+record Same (r : Fic) (after : Buffers) (s : Fic) (also : Buffers) : Type 0 where
+  fic_is : r ≡ s
+  buffers_are : after ≡ also
+
+processed-one : {xs : List ℤ} {n : ℕ} {before : Buffers} {r s : Fic} {after also : Buffers} → Processed xs n before r after → Processed xs n before s also → Same r after s also
 processed-one {xs} {n} {before} {r} {s} {after} {also} f g =
     record {
-      answer_is =
-          fic-one r s (answer-one r.answer s.answer (f.answer ∙ ap gives sums ∙ sym g.answer))
+      fic_is =
+          fic-one r s (f.answer ∙ sums ∙ sym g.answer)
           (f.passed ∙ four_ext n _ _ 0 (λ b h. ap (λ (k : Block). count_of (data_bits k.decoded) 3) (blocks b h)) ∙ sym g.passed)
           (f.quality ∙ four_ext n _ _ nothing (λ b h. ap (λ (k : Block). quality_of k.metric (depunctured_block xs b)) (blocks b h)) ∙ sym g.quality);
       buffers_are =
@@ -77,15 +74,13 @@ processed-one {xs} {n} {before} {r} {s} {after} {also} f g =
     works : work_after xs f.block n before ≡ work_after xs g.block n before
     works = work_ext xs f.block g.block n before blocks
 
-outcomes_one : (k : ℕ) (xs : List ℤ) (before : Buffers) (r s : Fic) (after also : Buffers) → Outcomes k xs before r after → Outcomes k xs before s also → SameFic r after s also
+outcomes_one : (k : ℕ) (xs : List ℤ) (before : Buffers) (r s : Fic) (after also : Buffers) → Outcomes k xs before r after → Outcomes k xs before s also → {a b : Outcome Fic} → a ≡ outcome k r → b ≡ outcome k s → (a ≡ b) × (after ≡ also)
 unfolding Outcomes
-outcomes_one zero xs before r s after also f g = processed-one f g
-outcomes_one (suc k) xs before r s after also f g =
-    record {
-      answer_is = fic-one r s (answer-one r.answer s.answer (f.0.answer ∙ sym g.0.answer)) (f.0.passed ∙ sym g.0.passed) (f.0.quality ∙ sym g.0.quality);
-      buffers_are = f.1 ∙ sym g.1;
-    }
+outcomes_one zero xs before r s after also f g p q = let same = processed-one f g in (p ∙ ap (outcome 0) same.fic_is ∙ sym q, same.buffers_are)
+outcomes_one (suc k) xs before r s after also f g p q = (p ∙ sym q, f ∙ sym g)
 
 -- for every input the promise allows one result
 pub fic_unique : FicUnique
-fic_unique s1 s2 s3 before r s after also f g = outcomes_one (process_refusal s1 s2 s3 before) (joined s1 s2 s3) before r s after also f.outcome g.outcome
+fic_unique s1 s2 s3 before r s after also f g =
+    let same = outcomes_one (process_refusal s1 s2 s3 before) (joined s1 s2 s3) before f.fic g.fic after also f.outcome g.outcome f.answer g.answer in
+    record { answer_is = told_one r s same.0; buffers_are = same.1 }

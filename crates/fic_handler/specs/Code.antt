@@ -1,19 +1,11 @@
 -- What the private functions of the crate ask and promise: one FIB, one block, and the blocks of a call.
-use Rattle.std.specs.Prelude.{◌≡◌, cond, List, ◌++◌, ℕ, ◌*◌, ◌≤◌, length, drop, ℤ}
-use Rattle.laws.specs.Words.{pick_n}
-use Rattle.spec_en300401.specs.Bytes.{bytes_of_bits}
-use Rattle.spec_en300401.specs.Crc.{fib_valid}
+use Rattle.std.specs.Prelude.{◌≡◌, List, ◌++◌, ℕ, ◌*◌, drop, ℤ}
 use Rattle.spec_en300401.specs.Puncturing.{mask, depuncture, fic_profile}
 use Rattle.spec_trellis.specs.Trellis.{zero_end}
 use Rattle.fec_quality.specs.declared.Quality.{Quality}
 use Rattle.fec_quality.specs.Figures.{quality_of}
 use Rattle.fec_viterbi.specs.Result.{Decodes, ChoiceWords}
 use Rattle.fic_handler.specs.Blocks.{data_bits, passed_bytes, count_of, Block, Buffers}
-
--- a FIB's bits, tested: packed into the start of the output if it passed, and else nothing
-pub record KeptFib (bits before : List ℕ) (kept : ℕ) (after : List ℕ) : Type 0 where
-  pub kept_is : kept ≡ pick_n (fib_valid bits) 1 0
-  pub bytes : after ≡ cond (fib_valid bits) (bytes_of_bits bits ++ drop 32 before) before
 
 -- of the first n FIBs the passed ones stand at the start of the output, and the rest of it is as it was
 pub record KeptFibs (bits : List ℕ) (n : ℕ) (before : List ℕ) (kept : ℕ) (after : List ℕ) : Type 0 where
@@ -29,14 +21,6 @@ pub record BlockDecoded (xs : List ℤ) (words bits : List ℕ) (q : Quality) (w
   pub words_are : words' ≡ block.choices ++ drop 774 words
   pub bits_are : bits' ≡ (data_bits block.decoded ++ drop 768 block.decoded) ++ drop 774 bits
 
--- a whole block, and buffers long enough for what it gives
-pub record BlockFits (block depunctured words bits fibs : ℕ) : Type 0 where
-  pub whole : block ≡ 2304
-  pub values : 3096 ≤ depunctured
-  pub choices : 774 ≤ words
-  pub places : 774 ≤ bits
-  pub out : 96 ≤ fibs
-
 -- one block of 2,304 values: how many FIBs passed, its quality, and what it leaves in the caller's buffers
 pub record BlockProcessed (values : List ℤ) (before : Buffers) (count : ℕ) (q : Quality) (after : Buffers) : Type 0 where
   pub block : Block
@@ -48,12 +32,3 @@ pub record BlockProcessed (values : List ℤ) (before : Buffers) (count : ℕ) (
   pub words_are : after.words ≡ block.choices ++ drop 774 before.words
   pub bits_are : after.bits ≡ (data_bits block.decoded ++ drop 768 block.decoded) ++ drop 774 before.bits
   pub fibs_are : after.fibs ≡ passed_bytes (data_bits block.decoded) 3 ++ drop (32 * count) before.fibs
-
--- n blocks are there, and the buffers are long enough for them
-pub record BlocksFit (n : ℕ) (xs : List ℤ) (l : Buffers) : Type 0 where
-  pub few : n ≤ 4
-  pub whole : 2304 * n ≤ length xs
-  pub values : 3096 ≤ length l.depunctured
-  pub choices : 774 ≤ length l.words
-  pub places : 774 ≤ length l.bits
-  pub out : 96 * n ≤ length l.fibs

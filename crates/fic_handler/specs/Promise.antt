@@ -1,10 +1,9 @@
 -- Document 01, fic/handler.rs, refusals 11 and 8, and the needed lengths: what three symbols give.
-use Rattle.std.specs.Prelude.{◌≡◌, cond, List, [], ◌∷◌, ◌++◌, ℕ, zero, suc, ◌*◌, ◌<◌, ltb, length, drop, ℤ}
+use Rattle.std.specs.Prelude.{◌≡◌, cond, List, [], ◌∷◌, ◌++◌, ℕ, zero, suc, ◌*◌, ◌<◌, ltb, length, drop, ℤ, Result}
 use Rattle.laws.specs.Lists.{list_of}
-use Rattle.refusal.specs.Outcome.{check, first_of, Outcome, gives, refuses, outcome as outcomeBy, unless_refused}
+use Rattle.refusal.specs.declared.Refusal.{Refusal}
+use Rattle.refusal.specs.Outcome.{check, first_of, outcome as outcomeBy, unless_refused, told}
 use Rattle.fec_quality.specs.Figures.{quality_of, nothing}
-use Rattle.fic_handler.specs.declared.FicAnswer.{FicAnswer}
-use Rattle.fic_handler.specs.declared.FicAnswer.TheVariants.{Fibs, Refused}
 use Rattle.fic_handler.specs.declared.Fic.{Fic}
 use Rattle.fic_handler.specs.Blocks.{joined, blocks_in, depunctured_block, data_bits, count_of, Block, IsBlock, Buffers, written, total}
 
@@ -20,11 +19,6 @@ too_few blocks l =
 -- the first refusal of a call, 11 before 8; 0 for none
 unfoldable pub process_refusal : List ℤ → List ℤ → List ℤ → Buffers → ℕ
 process_refusal s1 s2 s3 l = first_of (too_long s1 ∷ too_long s2 ∷ too_long s3 ∷ too_few (blocks_in (joined s1 s2 s3)) l)
-
--- how many FIBs, or the number
-abbrev pub answer_of : FicAnswer → Outcome ℕ
-answer_of (Fibs n) = gives n
-answer_of (Refused r) = refuses r.number
 
 -- a value for each of the four blocks: of the first n its own, of the others none
 module _ {ℓ} {A : Type ℓ} where
@@ -46,7 +40,7 @@ work_after xs k (suc n) l =
 pub record Processed (xs : List ℤ) (n : ℕ) (before : Buffers) (r : Fic) (after : Buffers) : Type 0 where
   pub block : ℕ → Block
   pub each : (b : ℕ) → b < n → IsBlock xs b (block b)
-  pub answer : answer_of r.answer ≡ gives (total block n)
+  pub answer : r.fibs ≡ total block n
   pub passed : r.passed ≡ four n (λ (b : ℕ). count_of (data_bits (block b).decoded) 3) 0
   pub quality : r.quality ≡ four n (λ (b : ℕ). quality_of (block b).metric (depunctured_block xs b)) nothing
   pub depunctured : after.depunctured ≡ (work_after xs block n before).depunctured
@@ -54,18 +48,12 @@ pub record Processed (xs : List ℤ) (n : ℕ) (before : Buffers) (r : Fic) (aft
   pub bits : after.bits ≡ (work_after xs block n before).bits
   pub fibs : after.fibs ≡ written block n ++ drop (32 * total block n) before.fibs
 
--- a refusal's answer: its number, four zero counts and records
-pub record Away (number : ℕ) (r : Fic) : Type 0 where
-  pub answer : answer_of r.answer ≡ refuses number
-  pub passed : r.passed ≡ 0 ∷ 0 ∷ 0 ∷ 0 ∷ []
-  pub quality : r.quality ≡ nothing ∷ nothing ∷ nothing ∷ nothing ∷ []
-
 -- by the number of the first refusal: the whole blocks are processed, or nothing is changed
 unfoldable pub Outcomes : ℕ → List ℤ → Buffers → Fic → Buffers → Type 0
-Outcomes n xs before r after = unless_refused n (Processed xs (blocks_in xs) before r after) (Away n r × (after ≡ before))
+Outcomes n xs before fic after = unless_refused n (Processed xs (blocks_in xs) before fic after) (after ≡ before)
 
--- the promise of `process_fic`: how many FIBs, or the first refusal; and what is written
-pub record FicPromise (s1 s2 s3 : List ℤ) (before : Buffers) (r : Fic) (after : Buffers) : Type 0 where
-  pub fibs : ℕ
-  pub answer : answer_of r.answer ≡ outcomeBy (process_refusal s1 s2 s3 before) fibs
-  pub outcome : Outcomes (process_refusal s1 s2 s3 before) (joined s1 s2 s3) before r after
+-- the promise of `process_fic`: what the symbols came to, or the first refusal; and what is written
+pub record FicPromise (s1 s2 s3 : List ℤ) (before : Buffers) (r : Result Fic Refusal) (after : Buffers) : Type 0 where
+  pub fic : Fic
+  pub answer : told r ≡ outcomeBy (process_refusal s1 s2 s3 before) fic
+  pub outcome : Outcomes (process_refusal s1 s2 s3 before) (joined s1 s2 s3) before fic after

@@ -1,112 +1,42 @@
 // FIC handling (fic/handler.rs): three symbols to checked FIBs, with the quality of each block.
 #![tactic(auto)]
 
-ghost use Rattle.std.specs.Prelude.{◌≡◌, ◌++◌, ◌+◌, ◌*◌, ◌/◌, ◌<◌, ◌≤◌, length, take, drop};
+ghost use Rattle.std.specs.Prelude.{◌≡◌, cond, ◌++◌, ◌+◌, ◌*◌, ◌<◌, ◌≤◌, length, take, drop};
 ghost use Rattle.laws.specs.Bits.{AreBits};
-ghost use Rattle.laws.specs.Integers.{at};
 ghost use Rattle.spec_en300401.specs.Bytes.{bytes_of_bits};
-ghost use Rattle.fec_viterbi.specs.Decoders.{metric_of};
-ghost use Rattle.fic_handler.specs.Blocks.{joined, fic_buffers};
-ghost use Rattle.fic_handler.specs.Code.{KeptFib, KeptFibs, BlockDecoded, BlockFits, BlockProcessed, BlocksFit};
-ghost use Rattle.fic_handler.specs.Promise.{Processed, Away, FicPromise};
-ghost use Rattle.fec_quality.specs.Figures.{quality_of};
+ghost use Rattle.spec_en300401.specs.Crc.{fib_valid};
+ghost use Rattle.fic_handler.specs.Blocks.{joined, blocks_in, fic_buffers};
+ghost use Rattle.fic_handler.specs.Code.{KeptFibs, BlockDecoded, BlockProcessed};
+ghost use Rattle.fic_handler.specs.Promise.{Processed, FicPromise};
 
-use fec_quality::{Measured, Quality};
-use fec_viterbi::Decoding;
+use fec_quality::Quality;
 use refusal::Refusal;
 
 // Soft values of a symbol: two for each carrier.
 const SYMBOL: usize = 2 * fec_crc::K;
 
-#[derive(Clone, Copy)]
-pub enum FicAnswer {
-    Fibs(usize),
-    Refused(Refusal),
-}
+const JOINED: usize = 3 * SYMBOL;
 
-// FIBs passed and quality for each block; all zero for an absent block and on a refusal.
-#[derive(Clone, Copy)]
+// Soft values of a block.
+const BLOCK: usize = 2304;
+
+// Steps of the trellis in a block, and its values with the erasures put back: four for each step.
+const STEPS: usize = 774;
+
+const VALUES: usize = 4 * STEPS;
+
+// Data bits of a block: all but the tail's.
+const DATA: usize = 768;
+
+// Bits of a FIB, and bytes.
+const FIB_BITS: usize = 8 * fec_crc::FIB_LENGTH;
+
+// What three symbols came to: FIBs passed in all and in each block, and the quality of each block; all zero for an absent block.
+#[derive(Clone, Copy, Debug, Default, PartialEq)]
 pub struct Fic {
-    pub answer: FicAnswer,
+    pub fibs: usize,
     pub passed: [usize; 4],
     pub quality: [Quality; 4],
-}
-
-// Value i of the three symbols joined.
-fn value(first: &[i8], second: &[i8], third: &[i8], i: usize) -> i8
-    requires { i < length first.now + (length second.now + length third.now) }
-    ensures { result ≡ at (joined first.now second.now third.now) i }
-{
-    if i < first.len() {
-        return first[i];
-    }
-    let j = i - first.len();
-    if j < second.len() {
-        return second[j];
-    }
-    third[j - second.len()]
-}
-
-// An array for a block. The promise gives only the length: what is put there is said by who fills it.
-fn empty_block() -> [i8; 2304]
-    ensures { 2304 ≡ length result }
-{
-    [0; 2304]
-}
-
-// The 2,304 values from one on.
-fn gather(first: &[i8], second: &[i8], third: &[i8], from: usize) -> [i8; 2304]
-    requires from_in_bounds { from + 2304 ≤ length first.now + (length second.now + length third.now) }
-    requires from_bound { from < 10000 }
-    ensures { result ≡ take 2304 (drop from (joined first.now second.now third.now)) }
-{
-    let mut block = empty_block();
-    let mut i: usize = 0;
-    while i < 2304 {
-        block[i] = value(first, second, third, from + i);
-        i += 1;
-    }
-    block
-}
-
-// Packs a FIB's bits into the start of the output.
-fn pack_fib(bits: &[u8], out: &mut [u8])
-    requires bits_len { (length bits.now ≡ 256) × (32 ≤ length out.old) }
-    requires are_bits { AreBits bits.now }
-    ensures { out.new ≡ bytes_of_bits bits.now ++ drop 32 out.old }
-{
-    fec_packing::pack(bits, out);
-}
-
-// Tests a FIB, and packs it only if it passed: how many FIBs passed, 1 or 0.
-fn keep_fib(bits: &[u8], out: &mut [u8]) -> usize
-    requires bits_len { (length bits.now ≡ 256) × (32 ≤ length out.old) }
-    requires are_bits { AreBits bits.now }
-    ensures { KeptFib bits.now out.old result out.new }
-{
-    if !fec_crc::check_crc_bits(bits) {
-        return 0;
-    }
-    pack_fib(bits, out);
-    1
-}
-
-// The three FIBs of a block: how many passed.
-fn keep_fibs(bits: &[u8], fibs: &mut [u8]) -> usize
-    requires bits_len { (length bits.now ≡ 768) × (96 ≤ length fibs.old) }
-    requires are_bits { AreBits bits.now }
-    ensures { KeptFibs bits.now 3 fibs.old result fibs.new }
-{
-    let mut kept: usize = 0;
-    let mut j: usize = 0;
-    while j < 3 {
-        let from = 256 * j;
-        let to = from + 256;
-        let at = 32 * kept;
-        kept += keep_fib(&bits[from..to], &mut fibs[at..]);
-        j += 1;
-    }
-    kept
 }
 
 // What one block gave.
@@ -116,46 +46,74 @@ struct BlockAnswer {
     quality: Quality,
 }
 
-// The metric of a decoding that was not refused.
-fn metric_of(decoding: Decoding) -> i32
-    ensures { result ≡ metric_of decoding }
+// The three symbols, joined from the start of the array on.
+fn join(first: &[i8], second: &[i8], third: &[i8]) -> [i8; JOINED]
+    requires first { length first.now ≤ 3072 }
+    requires second { length second.now ≤ 3072 }
+    requires third { length third.now ≤ 3072 }
+    ensures { take (length first.now + length second.now + length third.now) result ≡ joined first.now second.now third.now }
 {
-    match decoding {
-        Decoding::Done(score) => score.metric,
-        Decoding::Refused(_) => 0,
-    }
+    let mut values = [0; JOINED];
+    let second_at = first.len();
+    let third_at = second_at + second.len();
+    let end = third_at + third.len();
+    values[..second_at].copy_from_slice(first);
+    values[second_at..third_at].copy_from_slice(second);
+    values[third_at..end].copy_from_slice(third);
+    values
 }
 
-fn quality_of(metric: i32, depunctured: &[i8]) -> Quality
-    requires { length depunctured.now ≡ 3096 }
-    ensures { result ≡ quality_of metric depunctured.now }
+// Tests a FIB, and packs it only if it passed: whether it did.
+fn keep_fib(bits: &[u8; FIB_BITS], out: &mut [u8]) -> bool
+    requires room { 32 ≤ length out.old }
+    requires are_bits { AreBits bits.now }
+    ensures passed { result ≡ fib_valid bits.now }
+    ensures bytes { out.new ≡ cond (fib_valid bits.now) (bytes_of_bits bits.now ++ drop 32 out.old) out.old }
 {
-    let measured = fec_quality::measure(metric, depunctured);
-    match measured {
-        Measured::Is(q) => q,
-        Measured::Refused(_) => fec_quality::none(),
+    let passed = fec_crc::check_crc_bits(bits);
+    if passed {
+        fec_packing::pack(bits, out).unwrap();
     }
+    passed
+}
+
+// The three FIBs of a block: how many passed.
+fn keep_fibs(bits: &[u8], fibs: &mut [u8]) -> usize
+    requires bits_len { length bits.now ≡ 768 }
+    requires room { 96 ≤ length fibs.old }
+    requires are_bits { AreBits bits.now }
+    ensures { KeptFibs bits.now 3 fibs.old result fibs.new }
+{
+    let mut kept = 0;
+    let (each, _) = bits.as_chunks();
+    for fib in each {
+        kept += usize::from(keep_fib(fib, &mut fibs[32 * kept..]));
+    }
+    kept
 }
 
 // Decodes the depunctured values of a block: its quality. The bits are then dispersed, but for the tail.
-fn decode_block(depunctured: &[i8], words: &mut [u64], bits: &mut [u8]) -> Quality
-    requires { (length depunctured.now ≡ 3096) × ((774 ≤ length words.old) × (774 ≤ length bits.old)) }
+fn decode_block(
+    depunctured: &[i8; VALUES],
+    words: &mut [u64; STEPS],
+    bits: &mut [u8; STEPS],
+) -> Quality
     ensures { BlockDecoded depunctured.now words.old bits.old result words.new bits.new }
 {
-    let decoding = fec_viterbi::viterbi_decode_state0(depunctured, &mut *words, &mut *bits);
-    fec_dispersal::energy_dispersal(&mut bits[0..768]);
-    quality_of(metric_of(decoding), depunctured)
+    let score = fec_viterbi::viterbi_decode_state0(depunctured, &mut *words, &mut *bits).unwrap();
+    fec_dispersal::energy_dispersal(&mut bits[..DATA]);
+    fec_quality::measure(score.metric, depunctured).unwrap()
 }
 
 // One block: depunctured, decoded, dispersed, and its FIBs tested; those that passed stand at the start of the output.
 fn process_block(
-    block: &[i8],
-    depunctured: &mut [i8],
-    words: &mut [u64],
-    bits: &mut [u8],
+    block: &[i8; BLOCK],
+    depunctured: &mut [i8; VALUES],
+    words: &mut [u64; STEPS],
+    bits: &mut [u8; STEPS],
     fibs: &mut [u8],
 ) -> BlockAnswer
-    requires { BlockFits (length block.now) (length depunctured.old) (length words.old) (length bits.old) (length fibs.old) }
+    requires { 96 ≤ length fibs.old }
     ensures { BlockProcessed
         block.now
         (fic_buffers depunctured.old words.old bits.old fibs.old)
@@ -163,69 +121,39 @@ fn process_block(
         result.quality
         (fic_buffers depunctured.new words.new bits.new fibs.new) }
 {
-    fec_depuncturing::depuncture_fic(block, &mut *depunctured);
-    let quality = decode_block(&depunctured[0..3096], &mut *words, &mut *bits);
-    let passed = keep_fibs(&bits[0..768], &mut *fibs);
+    fec_depuncturing::depuncture_fic(block, &mut *depunctured).unwrap();
+    let quality = decode_block(&*depunctured, &mut *words, &mut *bits);
+    let passed = keep_fibs(&bits[..DATA], fibs);
     BlockAnswer { passed, quality }
 }
 
-// The first n blocks of the three symbols.
+// The whole blocks of the symbols' values; what stands for an absent one is all zero.
 fn process_blocks(
-    first: &[i8],
-    second: &[i8],
-    third: &[i8],
-    n: usize,
-    depunctured: &mut [i8],
-    words: &mut [u64],
-    bits: &mut [u8],
+    values: &[i8],
+    depunctured: &mut [i8; VALUES],
+    words: &mut [u64; STEPS],
+    bits: &mut [u8; STEPS],
     fibs: &mut [u8],
 ) -> Fic
-    requires { BlocksFit n (joined first.now second.now third.now) (fic_buffers depunctured.old words.old bits.old fibs.old) }
+    requires few { blocks_in values.now ≤ 4 }
+    requires room { 96 * blocks_in values.now ≤ length fibs.old }
     ensures { Processed
-        (joined first.now second.now third.now)
-        n
+        values.now
+        (blocks_in values.now)
         (fic_buffers depunctured.old words.old bits.old fibs.old)
         result
         (fic_buffers depunctured.new words.new bits.new fibs.new) }
 {
-    let absent = fec_quality::none();
-    let mut passed = [0usize; 4];
-    let mut quality = [absent; 4];
-    let mut sum: usize = 0;
-    let mut b: usize = 0;
-    while b < n {
-        let block = gather(first, second, third, 2304 * b);
-        let at = 32 * sum;
-        let one = process_block(
-            &block,
-            &mut *depunctured,
-            &mut *words,
-            &mut *bits,
-            &mut fibs[at..],
-        );
-        passed[b] = one.passed;
-        let q = one.quality;
-        quality[b] = q;
-        sum += one.passed;
-        b += 1;
+    let mut fic = Fic::default();
+    let (blocks, _) = values.as_chunks();
+    for (b, block) in blocks.iter().enumerate() {
+        let out = &mut fibs[32 * fic.fibs..];
+        let one = process_block(block, &mut *depunctured, &mut *words, &mut *bits, out);
+        fic.fibs += one.passed;
+        fic.passed[b] = one.passed;
+        fic.quality[b] = one.quality;
     }
-    Fic {
-        answer: FicAnswer::Fibs(sum),
-        passed,
-        quality,
-    }
-}
-
-// The answer of a refusal: its number, and no FIBs and a record of zeros for each block.
-fn turned_away(number: u8) -> Fic
-    ensures { Away number result }
-{
-    let absent = fec_quality::none();
-    Fic {
-        answer: FicAnswer::Refused(Refusal { number }),
-        passed: [0; 4],
-        quality: [absent; 4],
-    }
+    fic
 }
 
 // Three symbols of up to 3,072 values to checked FIBs: each passed FIB is written into the output, the k-th from byte 32 k on.
@@ -237,7 +165,7 @@ pub fn process_fic(
     words: &mut [u64],
     bits: &mut [u8],
     fibs: &mut [u8],
-) -> Fic
+) -> Result<Fic, Refusal>
     ensures { FicPromise
         first.now
         second.now
@@ -246,27 +174,16 @@ pub fn process_fic(
         result
         (fic_buffers depunctured.new words.new bits.new fibs.new) }
 {
-    if SYMBOL < first.len() {
-        return turned_away(11);
+    if SYMBOL < first.len() || SYMBOL < second.len() || SYMBOL < third.len() {
+        return Err(Refusal::LongInput);
     }
-    if SYMBOL < second.len() {
-        return turned_away(11);
+    let depunctured = depunctured.first_chunk_mut().ok_or(Refusal::ShortBuffer)?;
+    let words = words.first_chunk_mut().ok_or(Refusal::ShortBuffer)?;
+    let bits = bits.first_chunk_mut().ok_or(Refusal::ShortBuffer)?;
+    let len = first.len() + second.len() + third.len();
+    if fibs.len() < 96 * (len / BLOCK) {
+        return Err(Refusal::ShortBuffer);
     }
-    if SYMBOL < third.len() {
-        return turned_away(11);
-    }
-    let n = (first.len() + (second.len() + third.len())) / 2304;
-    if depunctured.len() < 3096 {
-        return turned_away(8);
-    }
-    if words.len() < 774 {
-        return turned_away(8);
-    }
-    if bits.len() < 774 {
-        return turned_away(8);
-    }
-    if fibs.len() < 96 * n {
-        return turned_away(8);
-    }
-    process_blocks(first, second, third, n, depunctured, words, bits, fibs)
+    let joined = join(first, second, third);
+    Ok(process_blocks(&joined[..len], depunctured, words, bits, fibs))
 }

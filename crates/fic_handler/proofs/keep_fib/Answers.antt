@@ -1,25 +1,37 @@
 -- By the test.
-use Rattle.std.proofs.Common.{◌≡◌, refl, sym, ap, ◌∙◌, Bool, true, false, cond, List, ◌++◌, ℕ, length, drop}
+use Rattle.std.proofs.Common.{◌≡◌, refl, sym, ap, ◌∙◌, subst, Bool, cond, List, ◌++◌, ℕ, ◌/◌, ◌≤◌, length, drop, arith}
+use Rattle.std.specs.Result.{IsOk}
 use Rattle.laws.specs.Bits.{AreBits}
-use Rattle.laws.specs.Words.{pick_n}
+use Rattle.refusal.proofs.Told.{is-ok}
 use Rattle.spec_en300401.specs.Bytes.{bytes_of_bits}
-use Rattle.spec_en300401.specs.Crc.{fib_valid}
-use Rattle.fec_crc.specs.Tests.{bit_test}
 use Rattle.fec_crc.proofs.Agree.{bit_is}
-use Rattle.fic_handler.specs.Code.{KeptFib}
+use Rattle.fec_packing.specs.Bytes.{bytes_of, packed}
+use Rattle.fec_packing.proofs.Bits.{as_bits}
+use Rattle.fec_packing.proofs.Answers.{long_enough, packed-is}
 use Rattle.fic_handler.proofs.keep_fib.Goals as goal
 
-module _ (bits out : List ℕ) {r t : Bool} (e : length bits ≡ 256) (h : AreBits bits) (test : r ≡ bit_test bits) (is : r ≡ t) where
-  valid : fib_valid bits ≡ t
-  valid = sym (test ∙ bit_is bits e h) ∙ is
+packs : (bits out : List ℕ) → length bits ≡ 256 → 32 ≤ length out → AreBits bits → packed bits out ≡ bytes_of_bits bits ++ drop 32 out
+unfolding bytes_of
+packs bits out e h b =
+    packed-is bits out (omega arith) ∙ ap (λ (n : ℕ). bytes_of bits ++ drop (n / 8) out) e ∙ ap (λ (r : List ℕ). bytes_of_bits r ++ drop 32 out) (as_bits bits b)
 
-  made : {k : ℕ} {new : List ℕ} → k ≡ pick_n t 1 0 → new ≡ cond t (bytes_of_bits bits ++ drop 32 out) out → KeptFib bits out k new
-  made p q = record { kept_is = p ∙ ap (λ (b : Bool). pick_n b 1 0) (sym valid); bytes = q ∙ ap (λ (b : Bool). cond b (bytes_of_bits bits ++ drop 32 out) out) (sym valid) }
+pub returns-then-passed-clause-passed : goal.returns-then-passed-clause-passed
+returns-then-passed-clause-passed c = c.check_crc_bits-passed.ensures ∙ bit_is c.args.bits.now (omega arith) c.requires.are_bits
 
-pub returns-then-not-check_crc_bits : goal.returns-then-not-check_crc_bits
-returns-then-not-check_crc_bits c =
-    made c.args.bits.now c.args.out.now {t = false} c.requires.bits_len.0 c.requires.are_bits c.check_crc_bits.ensures c.if-not-check_crc_bits.true refl refl
+pub returns-then-passed-clause-bytes : goal.returns-then-passed-clause-bytes
+returns-then-passed-clause-bytes c =
+    let bits = c.args.bits.now in
+    let passed = sym c.if-passed.true ∙ c.check_crc_bits-passed.ensures ∙ bit_is bits (omega arith) c.requires.are_bits in
+    c.pack.ensures.bytes ∙ packs bits c.args.out.now (omega arith) c.requires.room c.requires.are_bits ∙ ap (λ (t : Bool). cond t (bytes_of_bits bits ++ drop 32 c.args.out.now) c.args.out.now) passed
 
-pub returns : goal.returns
-returns c =
-    made c.args.bits.now c.args.out.now {t = true} c.requires.bits_len.0 c.requires.are_bits c.check_crc_bits.ensures c.if-not-check_crc_bits.false refl c.pack_fib.ensures
+pub returns-else-passed-clause-passed : goal.returns-else-passed-clause-passed
+returns-else-passed-clause-passed c = c.check_crc_bits-passed.ensures ∙ bit_is c.args.bits.now (omega arith) c.requires.are_bits
+
+pub returns-else-passed-clause-bytes : goal.returns-else-passed-clause-bytes
+returns-else-passed-clause-bytes c =
+    let bits = c.args.bits.now in
+    let failed = sym c.if-passed.false ∙ c.check_crc_bits-passed.ensures ∙ bit_is bits (omega arith) c.requires.are_bits in
+    ap (λ (t : Bool). cond t (bytes_of_bits bits ++ drop 32 c.args.out.now) c.args.out.now) failed
+
+pub unwrap-requires : goal.unwrap-requires
+unwrap-requires c = subst IsOk (sym (is-ok c.pack.result _ _ c.pack.ensures.answer (long_enough c.args.bits.now c.args.out.now (omega arith)))) refl

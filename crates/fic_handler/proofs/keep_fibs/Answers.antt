@@ -1,49 +1,62 @@
 -- One FIB more at each turn.
-use Rattle.std.proofs.Common.{◌≡◌, refl, sym, ◌∙◌, subst, subst₂, List, ℕ, ◌+◌, ◌*◌, ◌-◌, ◌≤◌, ◌<◌, length, take, drop, arith, length-drop, length-take}
-use borrow.Rule.Slice.PartMut.{put_mid, same_len_mid}
-use Rattle.laws.proofs.Slices.{tail_part, tail_put, size_of_part}
+use Rattle.std.proofs.Common.{◌≡◌, refl, sym, ap, ap₂, ◌∙◌, subst, Bool, true, false, cond, List, [], ◌++◌, ℕ, ◌+◌, ◌*◌, ◌-◌, ◌/◌, ◌<◌, ◌≤◌, arith, length, get_or, take, drop, length-drop, length-take}
+use Rattle.std.specs.Simd.{first_chunks}
+use mir.Val.{bool_byte}
+use borrow.Rule.Slice.PartMut.{put_mid}
+use Rattle.laws.specs.Bits.{AreBits}
+use Rattle.laws.specs.Words.{pick_n}
+use Rattle.laws.proofs.Words.{bit_lt}
+use Rattle.laws.proofs.Slices.{tail_part, tail_put}
+use Rattle.laws.proofs.Bits.{below-take, below-drop}
+use Rattle.spec_en300401.specs.Bytes.{bytes_of_bits}
+use Rattle.spec_en300401.specs.Crc.{fib_valid}
 use Rattle.fic_handler.specs.Blocks.{fib_of, passed_bytes, count_of}
-use Rattle.fic_handler.specs.Code.{KeptFib, KeptFibs}
-use Rattle.fic_handler.proofs.Fibs.{count-le, kept-lt, kept_next}
+use Rattle.fic_handler.specs.Code.{KeptFibs}
+use Rattle.fic_handler.proofs.Fibs.{count-le, chunk_at, kept_next}
 use Rattle.fic_handler.proofs.keep_fibs.Goals as goal
 
-few : {bits old fibs : List ℕ} {kept j : ℕ} → KeptFibs bits j old kept fibs → kept ≤ j
-few {bits} {j = j} v = omega (arith, v.kept_is, count-le bits j)
+one_or_none : (t : Bool) → pick_n t 1 0 ≡ bool_byte t
+one_or_none true = refl
+one_or_none false = refl
 
-next : {bits old fibs new : List ℕ} {kept j k : ℕ} → length bits ≡ 768 → j < 3 → 32 * kept ≤ length fibs → KeptFibs bits j old kept fibs
-    → KeptFib (take (256 * j + 256 - 256 * j) (drop (256 * j) bits)) (take (length fibs - 32 * kept) (drop (32 * kept) fibs)) k new
+this_fib : (bits : List ℕ) {each : List (List ℕ)} {j : ℕ} → length bits ≡ 768 → each ≡ first_chunks 256 (length bits / 256) bits → j < 3 → get_or each j [] ≡ fib_of bits j
+this_fib bits {each} {j} e front h = ap (λ (l : List (List ℕ)). get_or l j []) front ∙ chunk_at 256 (length bits / 256) bits j (omega arith)
+
+next : {bits old fibs new fib : List ℕ} {kept j k : ℕ} {t : Bool} → length bits ≡ 768 → j < 3 → 32 * kept ≤ length fibs → KeptFibs bits j old kept fibs
+    → fib ≡ fib_of bits j → t ≡ fib_valid fib → k ≡ bool_byte t
+    → new ≡ cond (fib_valid fib) (bytes_of_bits fib ++ drop 32 (take (length fibs - 32 * kept) (drop (32 * kept) fibs))) (take (length fibs - 32 * kept) (drop (32 * kept) fibs))
     → KeptFibs bits (j + 1) old (kept + k) (put_mid (32 * kept) (length fibs - 32 * kept) fibs new)
-next {bits} {old} {fibs} {new} {kept} {j} {k} e h fits v w =
-    let one : KeptFib (fib_of bits j) (drop (32 * kept) fibs) k new =
-    subst₂ (λ (n : ℕ) (o : List ℕ). KeptFib (take n (drop (256 * j) bits)) o k new) (size_of_part (256 * j) 256) (tail_part (32 * kept) fibs fits) w in
-    subst (KeptFibs bits (j + 1) old (kept + k)) (sym (tail_put (32 * kept) fibs fits new)) (kept_next e h v one)
+next {bits} {old} {fibs} {new} {fib} {kept} {j} {k} {t} e h fits v is passed count bytes =
+    subst (KeptFibs bits (j + 1) old (kept + k)) (sym (tail_put (32 * kept) fibs fits new))
+    (kept_next e h v (count ∙ sym (one_or_none t) ∙ ap (λ (b : Bool). pick_n b 1 0) (passed ∙ ap fib_valid is))
+    (bytes ∙ ap₂ (λ (f l : List ℕ). cond (fib_valid f) (bytes_of_bits f ++ drop 32 l) l) is (tail_part (32 * kept) fibs fits)))
 
-pub loop-j-init : goal.loop-j-init
+pub loop-fib-init : goal.loop-fib-init
 unfolding passed_bytes count_of
-loop-j-init c = record { inside = omega arith; long = refl; fibs_are = record { kept_is = refl; bytes = refl } }
+loop-fib-init c = record { kept_is = refl; bytes = refl }
 
-pub overflow_mul-at : goal.overflow_mul-at
-overflow_mul-at c = omega (arith, few c.loop-j.invariant.fibs_are)
+pub overflow_mul-kept : goal.overflow_mul-kept
+overflow_mul-kept c = let v = c.loop-fib.invariant in omega (arith, v.kept_is, count-le c.args.bits.now c.loop-fib.fib-index)
 
-pub slice_bounds-keep_fib-count-in-loop-j : goal.slice_bounds-keep_fib-count-in-loop-j
-slice_bounds-keep_fib-count-in-loop-j c = omega (arith, few c.loop-j.invariant.fibs_are)
+pub slice_bounds-keep_fib-count : goal.slice_bounds-keep_fib-count
+slice_bounds-keep_fib-count c = let v = c.loop-fib.invariant in omega (arith, v.kept_is, count-le c.args.bits.now c.loop-fib.fib-index)
 
-pub slice_bounds-keep_fib-start-in-loop-j : goal.slice_bounds-keep_fib-start-in-loop-j
-slice_bounds-keep_fib-start-in-loop-j c = omega (arith, few c.loop-j.invariant.fibs_are)
+pub slice_bounds-keep_fib-start : goal.slice_bounds-keep_fib-start
+slice_bounds-keep_fib-start c = let v = c.loop-fib.invariant in omega (arith, v.kept_is, count-le c.args.bits.now c.loop-fib.fib-index)
 
-pub keep_fib-kept-requires-clause-bits_len : goal.keep_fib-kept-requires-clause-bits_len
-keep_fib-kept-requires-clause-bits_len c =
-    (simp (length-take, length-drop) (omega arith), simp (length-take, length-drop) (omega (arith, few c.loop-j.invariant.fibs_are)))
+pub keep_fib-requires-clause-room : goal.keep_fib-requires-clause-room
+keep_fib-requires-clause-room c = let v = c.loop-fib.invariant in simp (length-take, length-drop) (omega (arith, v.kept_is, count-le c.args.bits.now c.loop-fib.fib-index))
+
+pub keep_fib-requires-clause-are_bits : goal.keep_fib-requires-clause-are_bits
+keep_fib-requires-clause-are_bits c =
+    subst AreBits (sym (this_fib c.args.bits.now c.requires.bits_len c.as_chunks.ensures.front (omega arith))) (below-take 256 (below-drop (256 * c.loop-fib.fib-index) c.requires.are_bits))
 
 pub overflow_add-kept : goal.overflow_add-kept
-overflow_add-kept c = omega (arith, few c.loop-j.invariant.fibs_are, kept-lt c.keep_fib-kept.ensures)
+overflow_add-kept c =
+    omega (arith, c.loop-fib.invariant.kept_is, count-le c.args.bits.now c.loop-fib.fib-index, one_or_none c.keep_fib.result ∙ sym c.from-kept.ensures, bit_lt c.keep_fib.result)
 
-pub loop-j-preserved : goal.loop-j-preserved
-loop-j-preserved c =
-    let l = c.loop-j in
-    let v = l.invariant in
-    record {
-      inside = omega arith;
-      long = same_len_mid (32 * l.kept) (length l.fibs - 32 * l.kept) l.fibs c.keep_fib-kept.new.out c.keep_fib-kept.auto.out ∙ v.long;
-      fibs_are = next c.requires.bits_len.0 c.loop-j-test.true (omega (arith, few v.fibs_are)) v.fibs_are c.keep_fib-kept.ensures;
-    }
+pub loop-fib-preserved : goal.loop-fib-preserved
+loop-fib-preserved c =
+    let l = c.loop-fib in
+    next c.requires.bits_len (omega arith) (omega (arith, l.invariant.kept_is, count-le c.args.bits.now l.fib-index)) l.invariant (this_fib c.args.bits.now c.requires.bits_len c.as_chunks.ensures.front (omega arith)) c.keep_fib.ensures.passed
+    c.from-kept.ensures c.keep_fib.ensures.bytes

@@ -14,5 +14,5 @@ returns c =
     let dep = c.depuncture_fic in
     let decoded = c.decode_block-quality in
     let kept = c.keep_fibs-passed in
-    block_done a.block.now (fic_buffers a.depunctured.now a.words.now a.bits.now a.fibs.now) (fic_buffers dep.new.out decoded.new.words decoded.new.bits kept.new.fibs) dep.result decoded.result kept.result c.requires.values
+    block_done a.block.now (fic_buffers a.depunctured.now a.words.now a.bits.now a.fibs.now) (fic_buffers dep.new.out decoded.new.words decoded.new.bits kept.new.fibs) dep.result decoded.result kept.result c.told-depunctured
     dep.ensures decoded.ensures kept.ensures

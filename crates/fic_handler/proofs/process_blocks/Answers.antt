@@ -1,16 +1,19 @@
 -- One block more at each turn: its FIBs are written behind those before it.
-use Rattle.std.proofs.Common.{◌≡◌, refl, sym, ap, ◌∙◌, subst, subst₂, List, [], ◌∷◌, ◌++◌, ℕ, ◌+◌, ◌*◌, ◌-◌, ◌<◌, ◌≤◌, ℤ, length, take, drop, arith}
-use borrow.Rule.Slice.PartMut.{put_mid, same_len_mid}
+use Rattle.std.proofs.Common.{◌≡◌, refl, sym, ap, ◌∙◌, subst, subst₂, List, [], ◌∷◌, ◌++◌, ℕ, ◌+◌, ◌*◌, ◌-◌, ◌/◌, ◌<◌, ◌≤◌, ℤ, length, get_or, take, drop, zero, suc, arith}
+use Rattle.std.specs.Simd.{first_chunks}
+use borrow.Rule.Slice.PartMut.{put_mid}
 use lib.ListN.{set}
+use lib.Seq.{ext_get_or}
+use lib.Ieee.{binary64, of_bits}
+use Rattle.std.specs.Array.{AllOfLen}
 use Rattle.laws.specs.Lists.{list_from}
 use Rattle.laws.proofs.Slices.{tail_part, tail_put}
 use Rattle.fec_quality.specs.declared.Quality.{Quality}
-use Rattle.refusal.specs.Outcome.{gives}
-use Rattle.fic_handler.specs.declared.FicAnswer.TheVariants.{Fibs}
-use Rattle.fic_handler.specs.Blocks.{joined, block_of, data_bits, written, Buffers, fic_buffers}
+use Rattle.fec_quality.specs.Figures.{nothing}
+use Rattle.fic_handler.specs.Blocks.{block_of, blocks_in, data_bits, written, Buffers, fic_buffers}
 use Rattle.fic_handler.specs.Code.{BlockProcessed}
 use Rattle.fic_handler.specs.Promise.{Processed}
-use Rattle.fic_handler.proofs.Fibs.{count-le}
+use Rattle.fic_handler.proofs.Fibs.{count-le, chunk_at}
 use Rattle.fic_handler.proofs.Run.{Run, run_none, run_next, behind}
 use Rattle.fic_handler.proofs.process_blocks.Goals as goal
 
@@ -18,25 +21,26 @@ at_most_three : {values : List ℤ} {before after : Buffers} {count : ℕ} {q : 
 at_most_three p = omega (arith, p.count_is, count-le (data_bits p.block.decoded) 3)
 
 -- one block more: the part of the output from byte 32 sum on was given
-next : {xs : List ℤ} {b sum count : ℕ} {before after : Buffers} {passed : List ℕ} {quality : List Quality} {q : Quality} {block : List ℤ} {dep : List ℤ} {ws bs new : List ℕ} → b < 4 → 32 * sum ≤ length after.fibs
-    → block ≡ take 2304 (drop (2304 * b) xs) → Run xs before b sum passed quality after
-    → BlockProcessed block (fic_buffers after.depunctured after.words after.bits (take (length after.fibs - 32 * sum) (drop (32 * sum) after.fibs))) count q (fic_buffers dep ws bs new)
+next : {xs : List ℤ} {b sum count : ℕ} {before after : Buffers} {passed : List ℕ} {quality : List Quality} {q : Quality} {blocks : List (List ℤ)} {dep : List ℤ} {ws bs new : List ℕ} → b < 4 → b < blocks_in xs → 32 * sum ≤ length after.fibs
+    → blocks ≡ first_chunks 2304 (length xs / 2304) xs → Run xs before b sum passed quality after
+    → BlockProcessed (get_or blocks b []) (fic_buffers after.depunctured after.words after.bits (take (length after.fibs - 32 * sum) (drop (32 * sum) after.fibs))) count q (fic_buffers dep ws bs new)
     → Run xs before (b + 1) (sum + count) (set passed b count) (set quality b q) (fic_buffers dep ws bs (put_mid (32 * sum) (length after.fibs - 32 * sum) after.fibs new))
-next {xs} {b} {sum} {count} {before} {after} {passed} {quality} {q} {block} {dep} {ws} {bs} {new} few fits e r p =
+next {xs} {b} {sum} {count} {before} {after} {passed} {quality} {q} {blocks} {dep} {ws} {bs} {new} few there fits e r p =
+    let this : get_or blocks b [] ≡ block_of xs b = ap (λ (l : List (List ℤ)). get_or l b []) e ∙ chunk_at 2304 (blocks_in xs) xs b there in
     let one : BlockProcessed (block_of xs b) (behind after sum) count q (fic_buffers dep ws bs new) =
-    subst₂ (λ (vs : List ℤ) (fs : List ℕ). BlockProcessed vs (fic_buffers after.depunctured after.words after.bits fs) count q (fic_buffers dep ws bs new)) e (tail_part (32 * sum) after.fibs fits) p in
+    subst₂ (λ (vs : List ℤ) (fs : List ℕ). BlockProcessed vs (fic_buffers after.depunctured after.words after.bits fs) count q (fic_buffers dep ws bs new)) this (tail_part (32 * sum) after.fibs fits) p in
     subst (λ (fs : List ℕ). Run xs before (b + 1) (sum + count) (set passed b count) (set quality b q) (fic_buffers dep ws bs fs)) (sym (tail_put (32 * sum) after.fibs fits new)) (run_next xs before b sum count passed quality after (fic_buffers dep ws bs new) q few r one)
 
 -- after the last block
-whole_run : {xs : List ℤ} {n b sum : ℕ} {before after : Buffers} {passed : List ℕ} {quality : List Quality} → b ≡ n → Run xs before b sum passed quality after → Processed xs n before (record { answer = Fibs sum; passed = passed; quality = quality }) after
-whole_run {xs} {n} {b} {sum} {before} {after} {passed} {quality} same r = subst (λ (m : ℕ). Processed xs m before (record { answer = Fibs sum; passed = passed; quality = quality }) after) same made
+whole_run : {xs : List ℤ} {n b sum : ℕ} {before after : Buffers} {passed : List ℕ} {quality : List Quality} → b ≡ n → Run xs before b sum passed quality after → Processed xs n before (record { fibs = sum; passed = passed; quality = quality }) after
+whole_run {xs} {n} {b} {sum} {before} {after} {passed} {quality} same r = subst (λ (m : ℕ). Processed xs m before (record { fibs = sum; passed = passed; quality = quality }) after) same made
   where
-    made : Processed xs b before (record { answer = Fibs sum; passed = passed; quality = quality }) after
+    made : Processed xs b before (record { fibs = sum; passed = passed; quality = quality }) after
     made =
         record {
           block = r.block;
           each = r.each;
-          answer = ap gives r.sum_is;
+          answer = r.sum_is;
           passed = r.counts_are;
           quality = r.qualities_are;
           depunctured = r.depunctured_are;
@@ -45,34 +49,38 @@ whole_run {xs} {n} {b} {sum} {before} {after} {passed} {quality} same r = subst 
           fibs = r.fibs_are ∙ ap (λ (m : ℕ). written r.block b ++ drop (32 * m) before.fibs) r.sum_is;
         }
 
+no_percent : of_bits binary64 0 ≡ nothing.percent
+unfolding of_bits
+no_percent = refl
+
+-- an array of four that are each x
+same_at : {A : Type 0} (x : A) (i : ℕ) → get_or (x ∷ x ∷ x ∷ x ∷ []) i x ≡ x
+same_at x zero = refl
+same_at x (suc zero) = refl
+same_at x (suc (suc zero)) = refl
+same_at x (suc (suc (suc zero))) = refl
+same_at x (suc (suc (suc (suc i)))) = refl
+
+four_same : {A : Type 0} {P : A → Type 0} {xs : List A} (x : A) → ((y : A) → P y → y ≡ x) → AllOfLen P xs 4 → xs ≡ x ∷ x ∷ x ∷ x ∷ []
+four_same {xs = xs} x one h = ext_get_or x xs (x ∷ x ∷ x ∷ x ∷ []) h.long (λ i l. one _ (h.at i x (omega (arith, h.long))) ∙ sym (same_at x i))
+
 pub loop-b-init : goal.loop-b-init
 unfolding list_from
 loop-b-init c =
-    let a = c.args in
-    let absent : Quality → List Quality = λ q. q ∷ q ∷ q ∷ q ∷ [] in
-    record {
-      inside = omega arith;
-      long_depunctured = refl;
-      long_words = refl;
-      long_bits = refl;
-      long_fibs = refl;
-      run = run_none (joined a.first.now a.second.now a.third.now) _ _ _ refl (ap absent c.none-absent.ensures);
-    }
+    let fic = c.default-fic.result in
+    let e = c.default-fic.ensures in
+    let l = fic_buffers c.args.depunctured.now c.args.words.now c.args.bits.now c.args.fibs.now in
+    let absent = four_same nothing (λ y q. (λ i. record { metric = q.0 i; sum = q.1.0 i; percent = (q.1.1 ∙ no_percent) i })) e.1.1 in
+    subst (λ (n : ℕ). Run c.args.values.now l 0 n fic.passed fic.quality l) (sym e.0) (run_none c.args.values.now l _ _ (four_same 0 (λ y q. q) e.1.0) absent)
 
-pub overflow_add-sum : goal.overflow_add-sum
-overflow_add-sum c = omega (arith, at_most_three c.process_block-one.ensures, c.loop-b.invariant.run.few)
+pub overflow_add-fic : goal.overflow_add-fic
+overflow_add-fic c = omega (arith, at_most_three c.process_block-one.ensures, c.loop-b.invariant.few)
 
 pub loop-b-preserved : goal.loop-b-preserved
 loop-b-preserved c =
-    let l = c.loop-b in
-    let v = l.invariant in
-    let done = c.process_block-one in
-    let fits : 32 * l.sum ≤ length l.fibs = omega (arith, v.run.few, v.long_fibs, c.requires.out) in
-    record {
-      inside = omega arith;
-      long_depunctured = done.auto.depunctured ∙ v.long_depunctured;
-      long_words = done.auto.words ∙ v.long_words;
-      long_bits = done.auto.bits ∙ v.long_bits;
-      long_fibs = same_len_mid (32 * l.sum) (length l.fibs - 32 * l.sum) l.fibs done.new.fibs done.auto.fibs ∙ v.long_fibs;
-      run = next (omega (arith, c.requires.few)) fits c.gather-block.ensures v.run done.ensures;
-    }
+    let v = c.loop-b.invariant in
+    let fits : 32 * c.loop-b.fic.fibs ≤ length c.loop-b.fibs = omega (arith, v.few) in
+    next (omega (arith, c.requires.few)) (omega arith) fits c.as_chunks.ensures.front v c.process_block-one.ensures
+
+pub returns : goal.returns
+returns c = whole_run (omega arith) c.loop-b.invariant

@@ -1,76 +1,84 @@
 -- Test by test, and then the blocks.
-use Rattle.std.proofs.Common.{◌≡◌, sym, ap, ◌∙◌, subst, List, ◌++◌, ℕ, ◌+◌, ◌*◌, ◌/◌, ◌<◌, ◌≤◌, ℤ, length, length-append}
+use Rattle.std.proofs.Common.{◌≡◌, refl, sym, ap, ap₂, subst, List, ◌++◌, ℕ, ◌+◌, ◌*◌, ◌/◌, ◌<◌, ◌≤◌, ℤ, length, take, length-append, arith, rules}
+use Rattle.refusal.specs.Outcome.{told, refuses}
 use Rattle.fic_handler.specs.Blocks.{joined, blocks_in, fic_buffers}
-use Rattle.fic_handler.specs.Promise.{Processed}
+use Rattle.fic_handler.specs.Promise.{process_refusal}
+use Rattle.fic_handler.proofs.Cut.{put_back, whole_call}
 use Rattle.fic_handler.proofs.Refusals.{first-long, second-long, third-long, no_depunctured, no_words, no_bits, no_fibs, no_refusal, away, done}
 use Rattle.fic_handler.proofs.process_fic.Goals as goal
+use Rattle.fic_handler.proofs.process_fic.Goals.{then-first-gt-SYMBOL-via-then-first-gt-SYMBOL, then-first-gt-SYMBOL-via-else-first-gt-SYMBOL+then-second-gt-SYMBOL, then-first-gt-SYMBOL-via-else-first-gt-SYMBOL+else-second-gt-SYMBOL+then-third-gt-SYMBOL}
 
-joined_length : (a b c : List ℤ) → length (joined a b c) ≡ length a + (length b + length c)
-joined_length a b c = length-append a (b ++ c) ∙ ap (λ (n : ℕ). length a + n) (length-append b c)
+joined_length : (a b c : List ℤ) → length (joined a b c) ≡ length a + length b + length c
+joined_length a b c = omega (arith, length-append a (b ++ c), length-append b c)
 
 -- what holds of the blocks as the code counts them holds of those of the joined symbols
-counted : (a b c : List ℤ) (P : ℕ → Type 0) → P ((length a + (length b + length c)) / 2304) → P (blocks_in (joined a b c))
+counted : (a b c : List ℤ) (P : ℕ → Type 0) → P ((length a + length b + length c) / 2304) → P (blocks_in (joined a b c))
 counted a b c P h = subst (λ (m : ℕ). P (m / 2304)) (sym (joined_length a b c)) h
 
 pub returns-then-first-gt-SYMBOL : goal.returns-then-first-gt-SYMBOL
 returns-then-first-gt-SYMBOL c =
     let a = c.args in
     let l = fic_buffers a.depunctured.now a.words.now a.bits.now a.fibs.now in
-    away a.first.now a.second.now a.third.now l {k = 10} (first-long a.first.now a.second.now a.third.now l c.if-first-gt-SYMBOL.true) c.turned_away.ensures
+    let long : process_refusal a.first.now a.second.now a.third.now l ≡ 11 =
+    elim c.then-first-gt-SYMBOL.branch [
+      | then-first-gt-SYMBOL-via-then-first-gt-SYMBOL w ↦ first-long a.first.now a.second.now a.third.now l w.if-first-gt-SYMBOL.true
+      | then-first-gt-SYMBOL-via-else-first-gt-SYMBOL+then-second-gt-SYMBOL w ↦ second-long a.first.now a.second.now a.third.now l w.if-first-gt-SYMBOL.false w.if-second-gt-SYMBOL.true
+      | then-first-gt-SYMBOL-via-else-first-gt-SYMBOL+else-second-gt-SYMBOL+then-third-gt-SYMBOL w ↦
+          third-long a.first.now a.second.now a.third.now l w.if-first-gt-SYMBOL.false w.if-second-gt-SYMBOL.false w.if-third-gt-SYMBOL.true
+    ] in
+    away a.first.now a.second.now a.third.now l long refl refl
 
-pub returns-then-second-gt-SYMBOL : goal.returns-then-second-gt-SYMBOL
-returns-then-second-gt-SYMBOL c =
+pub returns-in_err-depunctured : goal.returns-in_err-depunctured
+returns-in_err-depunctured c =
     let a = c.args in
-    let l = fic_buffers a.depunctured.now a.words.now a.bits.now a.fibs.now in
-    away a.first.now a.second.now a.third.now l {k = 10} (second-long a.first.now a.second.now a.third.now l c.if-first-gt-SYMBOL.false c.if-second-gt-SYMBOL.true) c.turned_away-then-second-gt-SYMBOL.ensures
+    let short : length a.depunctured.now < 3096 = search rules in
+    let err : told c.from_residual.result ≡ refuses 8 = search rules in
+    away _ _ _ _ (no_depunctured _ _ _ _ c.if-first-gt-SYMBOL.false c.if-second-gt-SYMBOL.false c.if-third-gt-SYMBOL.false short) err refl
 
-pub returns-then-third-gt-SYMBOL : goal.returns-then-third-gt-SYMBOL
-returns-then-third-gt-SYMBOL c =
+pub returns-in_err-words : goal.returns-in_err-words
+returns-in_err-words c =
     let a = c.args in
-    let l = fic_buffers a.depunctured.now a.words.now a.bits.now a.fibs.now in
-    away a.first.now a.second.now a.third.now l {k = 10} (third-long a.first.now a.second.now a.third.now l c.if-first-gt-SYMBOL.false c.if-second-gt-SYMBOL.false c.if-third-gt-SYMBOL.true)
-    c.turned_away-then-third-gt-SYMBOL.ensures
+    let long : 3096 ≤ length a.depunctured.now = search rules in
+    let cut : c.in_ok-depunctured.depunctured.now ≡ take 3096 a.depunctured.now = search rules in
+    let short : length a.words.now < 774 = search rules in
+    let err : told c.from_residual-in_err-words.result ≡ refuses 8 = search rules in
+    away _ _ _ _ (no_words _ _ _ _ c.if-first-gt-SYMBOL.false c.if-second-gt-SYMBOL.false c.if-third-gt-SYMBOL.false long short) err
+    (ap (λ (d : List ℤ). fic_buffers d a.words.now a.bits.now a.fibs.now) (put_back 3096 cut))
 
-pub returns-then-depunctured-lt3096 : goal.returns-then-depunctured-lt3096
-returns-then-depunctured-lt3096 c =
+pub returns-in_err-bits : goal.returns-in_err-bits
+returns-in_err-bits c =
     let a = c.args in
-    let l = fic_buffers a.depunctured.now a.words.now a.bits.now a.fibs.now in
-    away a.first.now a.second.now a.third.now l {k = 7}
-    (no_depunctured a.first.now a.second.now a.third.now l c.if-first-gt-SYMBOL.false c.if-second-gt-SYMBOL.false c.if-third-gt-SYMBOL.false c.if-depunctured-lt3096.true)
-    c.turned_away-then-depunctured-lt3096.ensures
+    let long : 3096 ≤ length a.depunctured.now = search rules in
+    let cut : c.in_ok-depunctured.depunctured.now ≡ take 3096 a.depunctured.now = search rules in
+    let long-words : 774 ≤ length a.words.now = search rules in
+    let cut-words : c.in_ok-words.words.now ≡ take 774 a.words.now = search rules in
+    let short : length a.bits.now < 774 = search rules in
+    let err : told c.from_residual-in_err-bits.result ≡ refuses 8 = search rules in
+    away _ _ _ _ (no_bits _ _ _ _ c.if-first-gt-SYMBOL.false c.if-second-gt-SYMBOL.false c.if-third-gt-SYMBOL.false long long-words short) err
+    (ap₂ (λ (d : List ℤ) (w : List ℕ). fic_buffers d w a.bits.now a.fibs.now) (put_back 3096 cut) (put_back 774 cut-words))
 
-pub returns-then-words-lt774 : goal.returns-then-words-lt774
-returns-then-words-lt774 c =
+pub returns-then-fibs-len : goal.returns-then-fibs-len
+returns-then-fibs-len c =
     let a = c.args in
-    let l = fic_buffers a.depunctured.now a.words.now a.bits.now a.fibs.now in
-    away a.first.now a.second.now a.third.now l {k = 7}
-    (no_words a.first.now a.second.now a.third.now l c.if-first-gt-SYMBOL.false c.if-second-gt-SYMBOL.false c.if-third-gt-SYMBOL.false c.if-depunctured-lt3096.false c.if-words-lt774.true)
-    c.turned_away-then-words-lt774.ensures
-
-pub returns-then-bits-lt774 : goal.returns-then-bits-lt774
-returns-then-bits-lt774 c =
-    let a = c.args in
-    let l = fic_buffers a.depunctured.now a.words.now a.bits.now a.fibs.now in
-    away a.first.now a.second.now a.third.now l {k = 7}
-    (no_bits a.first.now a.second.now a.third.now l c.if-first-gt-SYMBOL.false c.if-second-gt-SYMBOL.false c.if-third-gt-SYMBOL.false c.if-depunctured-lt3096.false c.if-words-lt774.false c.if-bits-lt774.true)
-    c.turned_away-then-bits-lt774.ensures
-
-pub returns-then-fibs-n : goal.returns-then-fibs-n
-returns-then-fibs-n c =
-    let a = c.args in
-    let l = fic_buffers a.depunctured.now a.words.now a.bits.now a.fibs.now in
-    let short = counted a.first.now a.second.now a.third.now (λ (n : ℕ). length a.fibs.now < 96 * n) c.if-fibs-n.true in
-    away a.first.now a.second.now a.third.now l {k = 7}
-    (no_fibs a.first.now a.second.now a.third.now l c.if-first-gt-SYMBOL.false c.if-second-gt-SYMBOL.false c.if-third-gt-SYMBOL.false c.if-depunctured-lt3096.false c.if-words-lt774.false c.if-bits-lt774.false short)
-    c.turned_away-then-fibs-n.ensures
+    let long : 3096 ≤ length a.depunctured.now = search rules in
+    let cut : c.in_ok-depunctured.depunctured.now ≡ take 3096 a.depunctured.now = search rules in
+    let long-words : 774 ≤ length a.words.now = search rules in
+    let cut-words : c.in_ok-words.words.now ≡ take 774 a.words.now = search rules in
+    let long-bits : 774 ≤ length a.bits.now = search rules in
+    let cut-bits : c.in_ok-bits.bits.now ≡ take 774 a.bits.now = search rules in
+    let short = counted a.first.now a.second.now a.third.now (λ (n : ℕ). length a.fibs.now < 96 * n) c.if-fibs-len.true in
+    away _ _ _ _ (no_fibs _ _ _ _ c.if-first-gt-SYMBOL.false c.if-second-gt-SYMBOL.false c.if-third-gt-SYMBOL.false long long-words long-bits short) refl
+    (λ i. fic_buffers (put_back 3096 cut i) (put_back 774 cut-words i) (put_back 774 cut-bits i) a.fibs.now)
 
 pub returns : goal.returns
 returns c =
     let a = c.args in
-    let l = fic_buffers a.depunctured.now a.words.now a.bits.now a.fibs.now in
-    let call = c.process_blocks in
-    let after = fic_buffers call.new.depunctured call.new.words call.new.bits call.new.fibs in
-    let enough = counted a.first.now a.second.now a.third.now (λ (n : ℕ). 96 * n ≤ length a.fibs.now) c.if-fibs-n.false in
-    done a.first.now a.second.now a.third.now l
-    (no_refusal a.first.now a.second.now a.third.now l c.if-first-gt-SYMBOL.false c.if-second-gt-SYMBOL.false c.if-third-gt-SYMBOL.false c.if-depunctured-lt3096.false c.if-words-lt774.false c.if-bits-lt774.false enough)
-    (counted a.first.now a.second.now a.third.now (λ (n : ℕ). Processed (joined a.first.now a.second.now a.third.now) n l call.result after) call.ensures)
+    let long : 3096 ≤ length a.depunctured.now = search rules in
+    let cut : c.in_ok-depunctured.depunctured.now ≡ take 3096 a.depunctured.now = search rules in
+    let long-words : 774 ≤ length a.words.now = search rules in
+    let cut-words : c.in_ok-words.words.now ≡ take 774 a.words.now = search rules in
+    let long-bits : 774 ≤ length a.bits.now = search rules in
+    let cut-bits : c.in_ok-bits.bits.now ≡ take 774 a.bits.now = search rules in
+    let enough = counted a.first.now a.second.now a.third.now (λ (n : ℕ). 96 * n ≤ length a.fibs.now) c.if-fibs-len.false in
+    done _ _ _ _ (no_refusal _ _ _ _ c.if-first-gt-SYMBOL.false c.if-second-gt-SYMBOL.false c.if-third-gt-SYMBOL.false long long-words long-bits enough) refl
+    (whole_call c.join-joined.ensures cut cut-words cut-bits c.process_blocks.ensures)
