@@ -64,6 +64,7 @@ fn join(first: &[i8], second: &[i8], third: &[i8]) -> [i8; JOINED]
 }
 
 // Tests a FIB, and packs it only if it passed: whether it did.
+#[tactic(auto, using(fec_crc::proofs::Agree::bit_is))]
 fn keep_fib(bits: &[u8; FIB_BITS], out: &mut [u8]) -> bool
     requires room { 32 ≤ length out.old }
     requires are_bits { AreBits bits.now }

@@ -15,23 +15,11 @@ unfolding bytes_of
 packs bits out e h b =
     packed-is bits out (omega arith) ∙ ap (λ (n : ℕ). bytes_of bits ++ drop (n / 8) out) e ∙ ap (λ (r : List ℕ). bytes_of_bits r ++ drop 32 out) (as_bits bits b)
 
-pub returns-then-passed-clause-passed : goal.returns-then-passed-clause-passed
-returns-then-passed-clause-passed c = c.check_crc_bits-passed.ensures ∙ bit_is c.args.bits.now (omega arith) c.requires.are_bits
-
 pub returns-then-passed-clause-bytes : goal.returns-then-passed-clause-bytes
 returns-then-passed-clause-bytes c =
     let bits = c.args.bits.now in
     let passed = sym c.if-passed.true ∙ c.check_crc_bits-passed.ensures ∙ bit_is bits (omega arith) c.requires.are_bits in
     c.pack.ensures.bytes ∙ packs bits c.args.out.now (omega arith) c.requires.room c.requires.are_bits ∙ ap (λ (t : Bool). cond t (bytes_of_bits bits ++ drop 32 c.args.out.now) c.args.out.now) passed
-
-pub returns-else-passed-clause-passed : goal.returns-else-passed-clause-passed
-returns-else-passed-clause-passed c = c.check_crc_bits-passed.ensures ∙ bit_is c.args.bits.now (omega arith) c.requires.are_bits
-
-pub returns-else-passed-clause-bytes : goal.returns-else-passed-clause-bytes
-returns-else-passed-clause-bytes c =
-    let bits = c.args.bits.now in
-    let failed = sym c.if-passed.false ∙ c.check_crc_bits-passed.ensures ∙ bit_is bits (omega arith) c.requires.are_bits in
-    ap (λ (t : Bool). cond t (bytes_of_bits bits ++ drop 32 c.args.out.now) c.args.out.now) failed
 
 pub unwrap-requires : goal.unwrap-requires
 unwrap-requires c = subst IsOk (sym (is-ok c.pack.result _ _ c.pack.ensures.answer (long_enough c.args.bits.now c.args.out.now (omega arith)))) refl

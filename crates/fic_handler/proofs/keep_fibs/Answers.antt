@@ -1,5 +1,5 @@
 -- One FIB more at each turn.
-use Rattle.std.proofs.Common.{◌≡◌, refl, sym, ap, ap₂, ◌∙◌, subst, Bool, true, false, cond, List, [], ◌++◌, ℕ, ◌+◌, ◌*◌, ◌-◌, ◌/◌, ◌<◌, ◌≤◌, arith, length, get_or, take, drop, length-drop, length-take}
+use Rattle.std.proofs.Common.{◌≡◌, refl, sym, ap, ap₂, ◌∙◌, subst, Bool, true, false, cond, List, [], ◌++◌, ℕ, ◌+◌, ◌*◌, ◌-◌, ◌/◌, ◌<◌, ◌≤◌, arith, length, get_or, take, drop}
 use Rattle.std.specs.Simd.{first_chunks}
 use mir.Val.{bool_byte}
 use borrow.Rule.Slice.PartMut.{put_mid}
@@ -12,7 +12,7 @@ use Rattle.spec_en300401.specs.Bytes.{bytes_of_bits}
 use Rattle.spec_en300401.specs.Crc.{fib_valid}
 use Rattle.fic_handler.specs.Blocks.{fib_of, passed_bytes, count_of}
 use Rattle.fic_handler.specs.Code.{KeptFibs}
-use Rattle.fic_handler.proofs.Fibs.{count-le, chunk_at, kept_next}
+use Rattle.fic_handler.proofs.Fibs.{chunk_at, kept_next}
 use Rattle.fic_handler.proofs.keep_fibs.Goals as goal
 
 one_or_none : (t : Bool) → pick_n t 1 0 ≡ bool_byte t
@@ -33,30 +33,18 @@ next {bits} {old} {fibs} {new} {fib} {kept} {j} {k} {t} e h fits v is passed cou
 
 pub loop-fib-init : goal.loop-fib-init
 unfolding passed_bytes count_of
-loop-fib-init c = record { kept_is = refl; bytes = refl }
-
-pub overflow_mul-kept : goal.overflow_mul-kept
-overflow_mul-kept c = let v = c.loop-fib.invariant in omega (arith, v.kept_is, count-le c.args.bits.now c.loop-fib.fib-index)
-
-pub slice_bounds-keep_fib-count : goal.slice_bounds-keep_fib-count
-slice_bounds-keep_fib-count c = let v = c.loop-fib.invariant in omega (arith, v.kept_is, count-le c.args.bits.now c.loop-fib.fib-index)
-
-pub slice_bounds-keep_fib-start : goal.slice_bounds-keep_fib-start
-slice_bounds-keep_fib-start c = let v = c.loop-fib.invariant in omega (arith, v.kept_is, count-le c.args.bits.now c.loop-fib.fib-index)
-
-pub keep_fib-requires-clause-room : goal.keep_fib-requires-clause-room
-keep_fib-requires-clause-room c = let v = c.loop-fib.invariant in simp (length-take, length-drop) (omega (arith, v.kept_is, count-le c.args.bits.now c.loop-fib.fib-index))
+loop-fib-init c = record { few = omega arith; so_far = record { kept_is = refl; bytes = refl } }
 
 pub keep_fib-requires-clause-are_bits : goal.keep_fib-requires-clause-are_bits
 keep_fib-requires-clause-are_bits c =
     subst AreBits (sym (this_fib c.args.bits.now c.requires.bits_len c.as_chunks.ensures.front (omega arith))) (below-take 256 (below-drop (256 * c.loop-fib.fib-index) c.requires.are_bits))
 
-pub overflow_add-kept : goal.overflow_add-kept
-overflow_add-kept c =
-    omega (arith, c.loop-fib.invariant.kept_is, count-le c.args.bits.now c.loop-fib.fib-index, one_or_none c.keep_fib.result ∙ sym c.from-kept.ensures, bit_lt c.keep_fib.result)
-
 pub loop-fib-preserved : goal.loop-fib-preserved
 loop-fib-preserved c =
     let l = c.loop-fib in
-    next c.requires.bits_len (omega arith) (omega (arith, l.invariant.kept_is, count-le c.args.bits.now l.fib-index)) l.invariant (this_fib c.args.bits.now c.requires.bits_len c.as_chunks.ensures.front (omega arith)) c.keep_fib.ensures.passed
-    c.from-kept.ensures c.keep_fib.ensures.bytes
+    record {
+      few = omega (arith, one_or_none c.keep_fib.result, c.from-kept.ensures, bit_lt c.keep_fib.result);
+      so_far =
+          next c.requires.bits_len (omega arith) (omega arith) l.invariant.so_far (this_fib c.args.bits.now c.requires.bits_len c.as_chunks.ensures.front (omega arith)) c.keep_fib.ensures.passed c.from-kept.ensures
+          c.keep_fib.ensures.bytes;
+    }
