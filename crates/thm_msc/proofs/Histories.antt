@@ -14,10 +14,9 @@ use lib.IntN.{ℤ, pos}
 use Rattle.laws.specs.Integers.{at}
 use Rattle.spec_en300401.specs.Interleaving.{delay, symbol_bits, cif_bits}
 use Rattle.fec_protection.specs.declared.Description.{Description}
-use Rattle.fec_protection.specs.Answers.{judged_as}
+use Rattle.refusal.specs.Outcome.{told, gives, refuses, outcome, unless_refused}
 use Rattle.fec_protection.specs.Refusals.{Accepted}
 use Rattle.fec_protection.proofs.Accepted.{units-inside}
-use Rattle.refusal.specs.Outcome.{gives, refuses, outcome, unless_refused}
 use Rattle.refusal.proofs.Laws.{given_number, is_refusal}
 use Rattle.refusal.proofs.Checks.{clean, zeroed, held_not}
 use Rattle.msc_handler.specs.declared.Fed.{Fed}
@@ -45,10 +44,10 @@ refused-second zero k a b e = let z : ◌≡◌ {A = ℕ} 0 1 = cc in absurd (om
 refused-second (suc n) k a b e = refl
 
 module _ {n : ℕ} {d : Description} {other : State} {ring : List ℤ} {r : SetUp} {ring' : List ℤ} (p : Prepared n d other ring r ring') where
-  not_refused : judged_as r.answer ≡ gives tt → n ≡ 0
+  not_refused : told r.answer ≡ gives tt → n ≡ 0
   not_refused e = given_number n tt tt (sym e ∙ p.answer)
 
-  ring_kept : (k : ℕ) → judged_as r.answer ≡ refuses k → ring' ≡ ring
+  ring_kept : (k : ℕ) → told r.answer ≡ refuses k → ring' ≡ ring
   ring_kept k e = p.ring_is ∙ refused-second n k _ ring (sym p.answer ∙ e)
 
   -- nothing has come in

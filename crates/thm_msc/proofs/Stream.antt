@@ -16,10 +16,9 @@ use Rattle.spec_trellis.specs.Clean.{Agrees}
 use Rattle.spec_en300401.specs.Interleaving.{delay, symbol_bits, cif_bits}
 use Rattle.spec_en300401.proofs.Interleaving.{delay-lt}
 use Rattle.fec_protection.specs.declared.Description.{Description}
-use Rattle.fec_protection.specs.Answers.{judged_as}
+use Rattle.refusal.specs.Outcome.{told, Outcome, gives, outcome}
 use Rattle.fec_protection.specs.Refusals.{Accepted}
 use Rattle.fec_protection.proofs.Accepted.{kept-fits}
-use Rattle.refusal.specs.Outcome.{Outcome, gives, outcome}
 use Rattle.msc_handler.specs.declared.Fed.{Fed}
 use Rattle.msc_set_up.specs.declared.SetUp.{SetUp}
 use Rattle.msc_state.specs.declared.State.{State}
@@ -44,7 +43,7 @@ record Started (d : Description) (first : Outcome (Unit {0})) (h : Held) : Type 
   starts : first ≡ gives tt
   since : History d h (came [] [])
 
-prepared_gives : {d : Description} {other : State} {ring : List ℤ} {r : SetUp} {ring' : List ℤ} {n : ℕ} → Prepared n d other ring r ring' → n ≡ 0 → judged_as r.answer ≡ gives tt
+prepared_gives : {d : Description} {other : State} {ring : List ℤ} {r : SetUp} {ring' : List ℤ} {n : ℕ} → Prepared n d other ring r ring' → n ≡ 0 → told r.answer ≡ gives tt
 prepared_gives p none = p.answer ∙ ap (λ (k : ℕ). outcome {A = Unit {0}} k tt) none
 
 started : {d : Description} {first : Outcome (Unit {0})} {h : Held} → Start d first h → Started d first h

@@ -2,8 +2,7 @@
 use Rattle.std.specs.Prelude.{◌≡◌, List, [], ◌∷◌, ◌++◌, ℕ, ◌<◌, length, get_or, take, drop, ℤ}
 use Rattle.spec_en300401.specs.Interleaving.{cif_bits, cif_symbols}
 use Rattle.fec_protection.specs.declared.Description.{Description}
-use Rattle.fec_protection.specs.Answers.{judged_as}
-use Rattle.refusal.specs.Outcome.{gives, refuses}
+use Rattle.refusal.specs.Outcome.{told, gives, refuses}
 use Rattle.msc_handler.specs.declared.Fed.{Fed}
 use Rattle.msc_set_up.specs.declared.SetUp.{SetUp}
 use Rattle.msc_state.specs.declared.State.{State}
@@ -55,15 +54,15 @@ left_in given' held = given' ++ drop (length given') held
 
 -- a refused call of one of the three: of any state or description; the caller goes on with the state that it held and the stores as the call left them
 pub data RefusedCall (d : Description) (h : Held) : Held → Type 0 where
-  set_up_refused : (n : ℕ) (e : Description) (ring : List ℤ) (r : SetUp) (ring' : List ℤ) → FrontOf (ring_length d) ring h.ring → SetUpPromise e ring r ring' → judged_as r.answer ≡ refuses n → RefusedCall d h (held h.state h.cif (left_in ring' h.ring))
-  reset_refused : (n : ℕ) (s : State) (ring : List ℤ) (r : SetUp) (ring' : List ℤ) → FrontOf (ring_length d) ring h.ring → ResetPromise s ring r ring' → judged_as r.answer ≡ refuses n → RefusedCall d h (held h.state h.cif (left_in ring' h.ring))
+  set_up_refused : (n : ℕ) (e : Description) (ring : List ℤ) (r : SetUp) (ring' : List ℤ) → FrontOf (ring_length d) ring h.ring → SetUpPromise e ring r ring' → told r.answer ≡ refuses n → RefusedCall d h (held h.state h.cif (left_in ring' h.ring))
+  reset_refused : (n : ℕ) (s : State) (ring : List ℤ) (r : SetUp) (ring' : List ℤ) → FrontOf (ring_length d) ring h.ring → ResetPromise s ring r ring' → told r.answer ≡ refuses n → RefusedCall d h (held h.state h.cif (left_in ring' h.ring))
   feed_refused : (n : ℕ) (s : State) (soft : List ℤ) (b : Buffers) (r : Fed) (b' : Buffers) → FrontOf cif_bits b.cif h.cif → FrontOf (ring_length d) b.ring h.ring → FeedPromise s soft b r b' → turn_of s soft b ≡ refuses n
       → RefusedCall d h (held h.state (left_in b'.cif h.cif) (left_in b'.ring h.ring))
 
 -- the calls since a description was set up, or any state that has it was reset: any number, in any order
 pub data History (d : Description) : Held → Came → Type 0 where
-  set_up : (cif ring : List ℤ) (r : SetUp) (ring' : List ℤ) → SetUpPromise d ring r ring' → judged_as r.answer ≡ gives tt → History d (held r.state cif ring') (came [] [])
-  reset : (s : State) (cif ring : List ℤ) (r : SetUp) (ring' : List ℤ) → s.channel.description ≡ d → ResetPromise s ring r ring' → judged_as r.answer ≡ gives tt → History d (held r.state cif ring') (came [] [])
+  set_up : (cif ring : List ℤ) (r : SetUp) (ring' : List ℤ) → SetUpPromise d ring r ring' → told r.answer ≡ gives tt → History d (held r.state cif ring') (came [] [])
+  reset : (s : State) (cif ring : List ℤ) (r : SetUp) (ring' : List ℤ) → s.channel.description ≡ d → ResetPromise s ring r ring' → told r.answer ≡ gives tt → History d (held r.state cif ring') (came [] [])
   refused : {h h' : Held} {c : Came} → History d h c → RefusedCall d h h' → History d h' c
   fed : {h : Held} {c : Came} (soft : List ℤ) (b : Buffers) (r : Fed) (b' : Buffers) → History d h c → HeldCall d h soft b r b' → History d (held_after r b') (after (turn_of h.state soft b) soft c)
 

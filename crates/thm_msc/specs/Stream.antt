@@ -4,9 +4,8 @@ use Rattle.laws.specs.Integers.{at}
 use Rattle.spec_trellis.specs.Clean.{Agrees}
 use Rattle.spec_en300401.specs.Interleaving.{delay, symbol_bits, cif_symbols}
 use Rattle.fec_protection.specs.declared.Description.{Description}
-use Rattle.fec_protection.specs.Answers.{judged_as}
+use Rattle.refusal.specs.Outcome.{told, Outcome, gives}
 use Rattle.fec_protection.specs.Refusals.{Accepted}
-use Rattle.refusal.specs.Outcome.{Outcome, gives}
 use Rattle.msc_handler.specs.declared.Answer.TheVariants.{Waiting}
 use Rattle.msc_handler.specs.declared.Fed.{Fed}
 use Rattle.msc_set_up.specs.declared.SetUp.{SetUp}
@@ -21,9 +20,9 @@ use Rattle.spec_sender.specs.Msc.{Sender, place_of, cif_bit}
 
 -- a description that is accepted is set up, or a state that has it and is not bad is reset, over a ring of its needed length: what the call answers and what is then held
 pub data Start (d : Description) : Outcome (Unit {0}) → Held → Type 0 where
-  by_set_up : (cif ring : List ℤ) (r : SetUp) (ring' : List ℤ) → Accepted d → ring_length d ≤ length ring → SetUpPromise d ring r ring' → Start d (judged_as r.answer) (held r.state cif ring')
+  by_set_up : (cif ring : List ℤ) (r : SetUp) (ring' : List ℤ) → Accepted d → ring_length d ≤ length ring → SetUpPromise d ring r ring' → Start d (told r.answer) (held r.state cif ring')
   by_reset : (s : State) (cif ring : List ℤ) (r : SetUp) (ring' : List ℤ) → s.channel.description ≡ d → bad_state s ≡ false → ring_length d ≤ length ring → ResetPromise s ring r ring'
-      → Start d (judged_as r.answer) (held r.state cif ring')
+      → Start d (told r.answer) (held r.state cif ring')
 
 -- a feed call with its needed lengths, and a symbol of 3,072 values; more are not looked at
 pub record FullCall (d : Description) (h : Held) (soft : List ℤ) (b : Buffers) (r : Fed) (b' : Buffers) : Type 0 where
