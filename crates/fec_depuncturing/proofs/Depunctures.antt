@@ -8,11 +8,9 @@ use native.Mathlib.Omega.{arith}
 use borrow.Author.Tests.{lt-ltb, le-ltb}
 use lib.Dec.{ltb}
 use lib.ListN.{length, drop}
-use lib.Seq.{sets}
 use lib.IntN.{ℤ}
-use Rattle.laws.proofs.Lists.{sets_front}
 use Rattle.spec_en300401.specs.Puncturing.{Region, mask, depuncture}
-use Rattle.spec_en300401.proofs.Puncturing.{Usable, length-depuncture}
+use Rattle.spec_en300401.proofs.Puncturing.{Usable}
 use Rattle.refusal.specs.declared.Refusal.{Refusal}
 use Rattle.std.specs.Prelude.{Result, Ok, Err}
 use Rattle.refusal.specs.Outcome.{Outcome, refuses, outcome, unless_refused, check, or_else, numbered, told}
@@ -21,7 +19,7 @@ use Rattle.fec_protection.specs.declared.Description.{Description}
 use Rattle.fec_protection.specs.Code.{regions_in}
 use Rattle.fec_protection.specs.Params.{params_of}
 use Rattle.fec_depuncturing.specs.Promises.{msc_refusal_of, DepuncturePromise, DepuncturedMsc}
-use Rattle.fec_depuncturing.specs.Code.{Fillable}
+use Rattle.fec_depuncturing.specs.Code.{Fillable, Filled}
 use Rattle.fec_protection.specs.Promises.{JudgePromise}
 use Rattle.fec_protection.specs.Refusals.{refusal_of, Accepted, depunctured_length, profile_of}
 use Rattle.fec_protection.proofs.Accepted.{refused-from}
@@ -47,14 +45,13 @@ module _ {n need : ℕ} {profile : List Region} {soft before after : List ℤ} {
       }
 
   -- accepted: the code's params of the profile were filled in from the front
-  pub fill_given : n ≡ 0 → r ≡ Ok tt → Usable profile → length (mask profile) ≡ need → need ≤ length before → after ≡ sets before 0 (depuncture (mask (regions_in (params_of profile))) soft) → DepuncturePromise n need profile soft before after r
+  pub fill_given : n ≡ 0 → r ≡ Ok tt → Usable profile → length (mask profile) ≡ need → need ≤ length before → {rest : List ℤ} → Filled (mask (regions_in (params_of profile))) soft before after rest → DepuncturePromise n need profile soft before after r
   fill_given e a u l h p =
       record {
         answer = ap told a ∙ ap (λ (m : ℕ). outcome m tt) (sym e);
         places =
-            p ∙ ap (λ (ks : List Bool). sets before 0 (depuncture ks soft)) (mask_by profile u)
-            ∙ sets_front (depuncture (mask profile) soft) before (omega (arith, length-depuncture (mask profile) soft))
-            ∙ ap (λ (m : ℕ). depuncture (mask profile) soft ++ drop m before) (length-depuncture (mask profile) soft ∙ l)
+            p.places ∙ ap (λ (ks : List Bool). depuncture ks soft ++ drop (length ks) before) (mask_by profile u)
+            ∙ ap (λ (m : ℕ). depuncture (mask profile) soft ++ drop m before) l
             ∙ ap (λ (m : ℕ). unless_refused m (depuncture (mask profile) soft ++ drop need before) before) (sym e);
       }
 

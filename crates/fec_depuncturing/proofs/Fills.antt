@@ -1,64 +1,85 @@
--- Runs of filled places: none, one, and one run after another.
+-- Filling from the front: none, one place, and one run of places after another.
 -- Assumes nothing.
-use mathlib.Core.Path.{◌≡◌, refl, sym, ap, ap₂, ◌∙◌}
+use mathlib.Core.Path.{◌≡◌, refl, sym, ap, ap₂, ◌∙◌, subst}
 use mathlib.Core.Bool.{Bool, true, false}
 use mathlib.Core.List.{List, [], ◌∷◌, ◌++◌, append_assoc}
-use Prim.Native.Nat.{ℕ, ◌+◌, ◌*◌, ◌<◌, ◌≤◌}
+use Prim.Native.Nat.{ℕ, ◌+◌, ◌-◌, ◌<◌, ◌≤◌}
 use native.Mathlib.Omega.{arith}
-use native.Mathlib.Nat.{add-zero, zero-add}
 use native.Mathlib.Numerals.{add-one}
-use lib.ListN.{length, get_or, take, drop, set, length-map, length-append}
-use lib.Seq.{sets, length-sets, get_or-drop, drop-drop, take-suc, length-take-le}
+use borrow.Rule.Slice.PartMut.{put_mid}
+use lib.ListN.{length, get_or, take, drop, set, take-append-drop, length-map, length-append, length-drop}
+use lib.Seq.{drop-drop, take-suc, length-take-le}
 use lib.IntN.{ℤ, pos}
 use Rattle.laws.specs.Integers.{at, pick_z}
 use Rattle.laws.specs.Lists.{count}
 use Rattle.laws.specs.Words.{pick_n}
-use Rattle.laws.proofs.Lists.{sets_append, count-append, count-le}
-use Rattle.spec_en300401.specs.Puncturing.{depuncture, region_mask, tail_mask, mask}
-use Rattle.spec_en300401.proofs.Puncturing.{depuncture-append, length-depuncture, depuncture-one, length-region}
+use Rattle.laws.proofs.Lists.{count-append}
+use Rattle.std.proofs.lemmas.List.{take_at, drop_at, take-set, drop-set}
+use Rattle.laws.proofs.Slices.{tail_part, tail_put}
+use Rattle.spec_en300401.specs.Puncturing.{depuncture}
+use Rattle.spec_en300401.proofs.Puncturing.{depuncture-append, length-depuncture, depuncture-one}
 use Rattle.fec_profiles.specs.Rows.{bits}
-use Rattle.fec_profiles.specs.declared.Section.{Section}
-use Rattle.fec_protection.specs.declared.ProtectionParams.{ProtectionParams}
-use Rattle.fec_protection.specs.Code.{region, region_in, regions_in}
-use Rattle.fec_depuncturing.specs.Code.{flag, flags, Runs}
+use Rattle.fec_depuncturing.specs.Code.{flag, flags, Filled}
 
-module _ {soft : List ℤ} where
-  pub runs_none : (read from : ℕ) (a : List ℤ) → Runs [] soft read from a a read
-  unfolding depuncture count
-  runs_none read from a = record { places = refl; used = omega arith }
+pub filled_none : (values a : List ℤ) → Filled [] values a a values
+unfolding depuncture count
+filled_none values a = record { places = refl; left = refl }
 
-  pub runs_one : (k : Bool) (read from : ℕ) (a : List ℤ) → Runs (k ∷ []) soft read from a (set a from (pick_z k (at soft read) (pos 0))) (read + pick_n k 1 0)
+-- the part behind the first n places
+pub part_length : (n : ℕ) (b : List ℤ) → n ≤ length b → length (take (length b - n) (drop n b)) ≡ length b - n
+part_length n b h = ap length (tail_part n b h) ∙ length-drop n b
+
+module _ {ks : List Bool} {values a b r : List ℤ} (f : Filled ks values a b r) where
+  pub filled_length : length ks ≤ length a → length b ≡ length a
+  filled_length h =
+      ap length f.places ∙ length-append (depuncture ks values) (drop (length ks) a)
+      ∙ ap₂ (λ (m n : ℕ). m + n) (length-depuncture ks values) (length-drop (length ks) a) ∙ omega (arith, h)
+
+  -- one run of places more
+  module _ (n : ℕ) (e : n ≡ length ks) (h : n ≤ length a) where
+    front : take n b ≡ depuncture ks values
+    front = ap (take n) f.places ∙ take_at (depuncture ks values) (drop (length ks) a) n (length-depuncture ks values ∙ sym e)
+
+    behind : drop n b ≡ drop n a
+    behind = ap (drop n) f.places ∙ drop_at (depuncture ks values) (drop (length ks) a) n (length-depuncture ks values ∙ sym e) ∙ ap (λ (m : ℕ). drop m a) (sym e)
+
+    within : n ≤ length b
+    within = omega (arith, filled_length (omega arith))
+
+    pub filled_on : {ls : List Bool} {c s : List ℤ} → Filled ls r (take (length b - n) (drop n b)) c s → Filled (ks ++ ls) values a (put_mid n (length b - n) b c) s
+    filled_on {ls} {c} {s} g =
+        record {
+          places =
+              tail_put n b within c
+              ∙ ap₂ (λ (x y : List ℤ). x ++ y) front (g.places ∙ ap₂ (λ (x y : List ℤ). depuncture ls x ++ drop (length ls) y) f.left (tail_part n b within ∙ behind) ∙ ap (λ (x : List ℤ). depuncture ls (drop (count ks) values) ++ x) beyond)
+              ∙ sym (append_assoc (depuncture ks values) (depuncture ls (drop (count ks) values)) (drop (length (ks ++ ls)) a))
+              ∙ ap (λ (x : List ℤ). x ++ drop (length (ks ++ ls)) a) (sym (depuncture-append ks ls values));
+          left = g.left ∙ ap (drop (count ls)) f.left ∙ drop-drop (count ls) (count ks) values ∙ ap (λ (m : ℕ). drop m values) (sym (count-append ks ls));
+        }
+      where
+        beyond : drop (length ls) (drop n a) ≡ drop (length (ks ++ ls)) a
+        beyond = drop-drop (length ls) n a ∙ ap (λ (m : ℕ). drop m a) (omega (arith, length-append ks ls))
+
+  -- one place more
+  pub filled_one : (k : Bool) (v : ℤ) (s : List ℤ) → length ks < length a → v ≡ pick_z k (at r 0) (pos 0) → s ≡ drop (pick_n k 1 0) r → Filled (ks ++ (k ∷ [])) values a (set b (length ks) v) s
   unfolding count
-  runs_one k read from a = record { places = sym (ap (sets a from) one); used = ap (λ (n : ℕ). read + n) (counted k) }
+  filled_one k v s h e l =
+      let n : ℕ = length ks in
+      let in_b : n < length b = omega (arith, filled_length (omega arith)) in
+      let one : Filled (k ∷ []) r (take (length b - n) (drop n b)) (v ∷ drop (n + 1) b) s =
+      record {
+        places = ap₂ (λ (x : ℤ) (y : List ℤ). x ∷ y) e (ap (λ (m : ℕ). drop m b) (omega arith) ∙ sym (drop-drop 1 n b) ∙ ap (drop 1) (sym (tail_part n b (omega arith)))) ∙ ap (λ (x : List ℤ). x ++ drop 1 (take (length b - n) (drop n b))) (sym (depuncture-one k r));
+        left = l ∙ ap (λ (m : ℕ). drop m r) (counted k);
+      }
+      in
+      subst (λ (x : List ℤ). Filled (ks ++ (k ∷ [])) values a x s) (tail_put n b (omega arith) (v ∷ drop (n + 1) b) ∙ sym (split b n in_b)) (filled_on n refl (omega arith) one)
     where
-      one : depuncture (k ∷ []) (drop read soft) ≡ pick_z k (at soft read) (pos 0) ∷ []
-      one = depuncture-one k (drop read soft) ∙ ap (λ (v : ℤ). pick_z k v (pos 0) ∷ []) (get_or-drop read soft 0 (pos 0) ∙ ap (at soft) (add-zero read))
-
-      counted : (b : Bool) → pick_n b 1 0 ≡ count (b ∷ [])
+      counted : (c : Bool) → pick_n c 1 0 ≡ count (c ∷ [])
       counted true = refl
       counted false = refl
 
-  module _ {ks : List Bool} {read from : ℕ} {a b : List ℤ} {n : ℕ} (p : Runs ks soft read from a b n) where
-    pub runs_append : {ls : List Bool} {next : ℕ} {c : List ℤ} {m : ℕ} → next ≡ from + length ks → Runs ls soft n next b c m → Runs (ks ++ ls) soft read from a c m
-    runs_append {ls} {next} {c} {m} e q =
-        record {
-          places =
-              q.places
-              ∙ ap₂ (λ (l : List ℤ) (i : ℕ). sets l i (depuncture ls (drop n soft))) p.places (e ∙ ap (λ (i : ℕ). from + i) (sym (length-depuncture ks (drop read soft))))
-              ∙ ap (λ (vs : List ℤ). sets (sets a from (depuncture ks (drop read soft))) (from + length (depuncture ks (drop read soft))) (depuncture ls vs)) goes_on
-              ∙ sym (sets_append (depuncture ks (drop read soft)) (depuncture ls (drop (count ks) (drop read soft))) a from)
-              ∙ ap (sets a from) (sym (depuncture-append ks ls (drop read soft)));
-          used = omega (arith, q.used, p.used, count-append ks ls);
-        }
-      where
-        goes_on : drop n soft ≡ drop (count ks) (drop read soft)
-        goes_on = ap (λ (i : ℕ). drop i soft) p.used ∙ sym (drop-drop (count ks) read soft)
-
-    pub runs_length : length b ≡ length a
-    runs_length = ap length p.places ∙ length-sets a from (depuncture ks (drop read soft))
-
-    pub runs_used : n ≤ read + length ks
-    runs_used = omega (arith, p.used, count-le ks)
+      split : (xs : List ℤ) (i : ℕ) → i < length xs → set xs i v ≡ take i xs ++ (v ∷ drop (i + 1) xs)
+      split xs i h = sym (take-append-drop i (set xs i v)) ∙ ap₂ (λ (x y : List ℤ). x ++ y) (take-set xs i v) (drop-set xs i v h)
 
 -- one flag more
 pub flags_next : (xs : List ℕ) (j : ℕ) → j < length xs → flags (take (j + 1) xs) ≡ flags (take j xs) ++ (flag (get_or xs j 0) ∷ [])
@@ -76,42 +97,3 @@ pub flags_of_bits : (ks : List Bool) → flags (bits ks) ≡ ks
 flags_of_bits [] = refl
 flags_of_bits (true ∷ ks) = ap (λ (r : List Bool). true ∷ r) (flags_of_bits ks)
 flags_of_bits (false ∷ ks) = ap (λ (r : List Bool). false ∷ r) (flags_of_bits ks)
-
--- the places from the front up to `end` hold what is depunctured under ks
-pub record Upto (ks : List Bool) (soft before after : List ℤ) (next end : ℕ) : Type 0 where
-  pub runs : Runs ks soft 0 0 before after next
-  pub long : length ks ≡ end
-
-module _ {soft a b : List ℤ} {n : ℕ} where
-  pub upto_first : (s : Section) → Runs (region_mask (region s)) soft 0 0 a b n → Upto (region_mask (region s)) soft a b n (128 * s.blocks)
-  upto_first s r = record { runs = r; long = length-region (region s) }
-
-  module _ {ks : List Bool} {end : ℕ} (u : Upto ks soft a b n end) where
-    pub upto_used : n ≤ end
-    upto_used = omega (arith, runs_used u.runs, u.long)
-
-    pub upto_length : length b ≡ length a
-    upto_length = runs_length u.runs
-
-    pub upto_next : {c : List ℤ} {m : ℕ} (ls : List Bool) (k : ℕ) → length ls ≡ k → Runs ls soft n end b c m → Upto (ks ++ ls) soft a c m (end + k)
-    upto_next ls k e r = record { runs = runs_append u.runs (sym u.long ∙ sym (zero-add (length ks))) r; long = length-append ks ls ∙ ap₂ (λ (i j : ℕ). i + j) u.long e }
-
-    pub upto_region : {c : List ℤ} {m : ℕ} (s : Section) → Runs (region_mask (region s)) soft n end b c m → Upto (ks ++ region_mask (region s)) soft a c m (end + 128 * s.blocks)
-    upto_region s r = upto_next (region_mask (region s)) (128 * s.blocks) (length-region (region s)) r
-
--- the regions and the tail, one after the other, are the profile's mask
-abbrev pub masks1 : ProtectionParams → List Bool
-masks1 p = region_mask (region_in p 0)
-
-abbrev pub masks2 : ProtectionParams → List Bool
-masks2 p = masks1 p ++ region_mask (region_in p 1)
-
-abbrev pub masks3 : ProtectionParams → List Bool
-masks3 p = masks2 p ++ region_mask (region_in p 2)
-
-abbrev pub masks4 : ProtectionParams → List Bool
-masks4 p = masks3 p ++ region_mask (region_in p 3)
-
-pub masks-all : (p : ProtectionParams) → masks4 p ++ tail_mask ≡ mask (regions_in p)
-unfolding mask
-masks-all p = simp append_assoc

@@ -1,5 +1,5 @@
 -- What the private functions of the crate ask and promise: the code's own terms, over the standard's definitions.
-use Rattle.std.specs.Prelude.{List, [], ◌∷◌, ℕ, ◌+◌, ◌*◌, ◌-◌, ◌<◌, ◌≤◌, get_or}
+use Rattle.std.specs.Prelude.{List, map, ℕ, ◌+◌, ◌*◌, ◌-◌, ◌<◌, ◌≤◌, get_or}
 use Rattle.spec_en300401.specs.Eep.{level_of}
 use Rattle.spec_en300401.specs.Puncturing.{Region}
 use Rattle.fec_profiles.specs.declared.Section.{Section}
@@ -39,8 +39,5 @@ sent_by p = sent_of (section_in p 0) + sent_of (section_in p 1) + sent_of (secti
 abbrev pub region : Section → Region
 region s = record { blocks = s.blocks; pi = s.pi + 1 }
 
-abbrev pub region_in : ProtectionParams → ℕ → Region
-region_in p i = region (section_in p i)
-
 abbrev pub regions_in : ProtectionParams → List Region
-regions_in p = region_in p 0 ∷ region_in p 1 ∷ region_in p 2 ∷ region_in p 3 ∷ []
+regions_in p = map region p.sections

@@ -1,5 +1,6 @@
 -- The description's refusal, or else 8, or the profile's params filled in.
-use Rattle.std.proofs.Common.{◌+◌, ◌*◌, ◌≤◌, refl, sym, ap, subst, length, arith}
+use Rattle.std.proofs.Common.{◌≡◌, rules, ◌+◌, ◌*◌, ◌≤◌, refl, sym, ap, subst, length, arith}
+use Rattle.std.specs.Slice.Iter.{iter_rest}
 use Rattle.refusal.specs.Outcome.{told}
 use Rattle.refusal.proofs.Told.{residual, ok_same, ok_not_err}
 use Rattle.fec_protection.specs.declared.ProtectionParams.{ProtectionParams}
@@ -37,7 +38,8 @@ fill_profile-requires c =
 pub returns : goal.returns
 returns c =
     let a = c.args in
+    let all : iter_rest c.iter.result ≡ c.args.soft.now = search rules in
     let ok = accepted-from a.d c.judge.ensures (ap told c.in_ok-judge.was) in
     let held = ok_same c.in_ok-params.was (accepted_params a.d ok c.protection_params.ensures) in
     let long : 96 * a.d.bitrate + 24 ≤ length a.out.now = omega (arith, c.from.ensures, c.if-out-from.false) in
-    fill_given (long_enough a.d a.soft.now a.out.now ok long) refl (usable a.d ok) (word_length a.d ok) long (rw held at c.fill_profile.ensures)
+    fill_given (long_enough a.d a.soft.now a.out.now ok long) refl (usable a.d ok) (word_length a.d ok) long (rw (held, all) at c.fill_profile.ensures)
