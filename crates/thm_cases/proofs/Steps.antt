@@ -18,7 +18,7 @@ use Rattle.spec_trellis.specs.Program.{survivor, start_into, bits_into}
 use Rattle.spec_trellis.proofs.TrellisOrder.{best_unique}
 use Rattle.spec_trellis.proofs.TrellisProgram.{into_score, zero-best}
 use Rattle.spec_trellis.proofs.TrellisShort.{under, free_best_by_test}
-use Rattle.fec_viterbi.specs.declared.Decoding.TheVariants.{Done}
+use Rattle.std.specs.Prelude.{Ok}
 use Rattle.fec_viterbi.specs.Decoders.{steps}
 use Rattle.fec_viterbi.specs.Result.{Decodes}
 use Rattle.fec_viterbi.proofs.Result.{finished, bits-one, metric-one}
@@ -71,4 +71,4 @@ pub answered : CasesAnswered
 answered ends xs bits m a few words out r words' out' w l d =
     let f = finished r few w l d in
     let o = a.only f.left.decodes in
-    (f.done_is ∙ ap (λ (z : ℤ). Done (record { metric = z })) o.1, f.left.bits_are ∙ ap (λ (b : List ℕ). b ++ drop (steps xs) out) o.0)
+    (f.done_is ∙ ap (λ (z : ℤ). Ok (record { metric = z })) o.1, f.left.bits_are ∙ ap (λ (b : List ℕ). b ++ drop (steps xs) out) o.0)

@@ -1,15 +1,15 @@
 -- Document 01, "Twelve cases proved as one table".
-use Rattle.std.specs.Prelude.{◌≡◌, List, [], ◌∷◌, ◌++◌, ℕ, ◌+◌, ◌*◌, ◌≤◌, length, drop, replicate, ℤ, pos, neg_ℤ}
+use Rattle.std.specs.Prelude.{◌≡◌, List, [], ◌∷◌, ◌++◌, ℕ, ◌+◌, ◌*◌, ◌≤◌, length, drop, replicate, ℤ, pos, neg_ℤ, Result, Ok}
 use Rattle.spec_en300401.specs.Dispersal.{disperse}
 use Rattle.spec_en300401.specs.Puncturing.{kept_size}
 use Rattle.spec_trellis.specs.Trellis.{Ends, zero_end, free_end}
 use Rattle.fec_protection.specs.declared.Description.{Description}
 use Rattle.fec_protection.specs.Descriptions.{eep, uep}
 use Rattle.fec_protection.specs.Refusals.{profile_of, judgement}
-use Rattle.refusal.specs.Outcome.{Outcome, gives, refuses}
-use Rattle.fec_viterbi.specs.declared.Decoding.{Decoding}
-use Rattle.fec_viterbi.specs.declared.Decoding.TheVariants.{Done}
-use Rattle.fec_viterbi.specs.Decoders.{steps, decoded_as, Decoded}
+use Rattle.refusal.specs.Outcome.{Outcome, gives, refuses, told}
+use Rattle.refusal.specs.declared.Refusal.{Refusal}
+use Rattle.fec_viterbi.specs.declared.Score.{Score}
+use Rattle.fec_viterbi.specs.Decoders.{steps, Decoded}
 use Rattle.fec_viterbi.specs.Result.{Decodes}
 
 -- a case: what is given, and what must come out
@@ -101,5 +101,5 @@ RunCases = AllHold run_table
 -- and so of a call: with the needed lengths it is done, with this metric, and leaves these bits before the rest as it was
 abbrev pub CasesAnswered : Type 0
 CasesAnswered =
-    (ends : Ends) (xs : List ℤ) (bits : List ℕ) (m : ℤ) → Answers ends xs bits m → steps xs ≤ 65536 → (words out : List ℕ) (r : Decoding) (words' out' : List ℕ)
-    → steps xs ≤ length words → steps xs ≤ length out → Decoded ends xs words out (decoded_as r) words' out' → (r ≡ Done (record { metric = m })) × (out' ≡ bits ++ drop (steps xs) out)
+    (ends : Ends) (xs : List ℤ) (bits : List ℕ) (m : ℤ) → Answers ends xs bits m → steps xs ≤ 65536 → (words out : List ℕ) (r : Result Score Refusal) (words' out' : List ℕ)
+    → steps xs ≤ length words → steps xs ≤ length out → Decoded ends xs words out (told r) words' out' → (r ≡ Ok (record { metric = m })) × (out' ≡ bits ++ drop (steps xs) out)
