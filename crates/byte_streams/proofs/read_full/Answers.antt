@@ -20,8 +20,6 @@ loop-done-preserved g c =
     let before = c.loop-done.invariant in
     let joined = Consumes-trans _ _ _ _ _ before.taken c.in-Ok.ensures.bytes.0 in
     record {
-      same_length = search rules;
       within = search rules;
-      small = search rules;
       taken = subst (Consumes _ _) (front_more c.loop-done.done _ c.in-Ok.n c.loop-done.buf c.read.new.buf before.within c.in-Ok.ensures.bound.0) joined;
     }

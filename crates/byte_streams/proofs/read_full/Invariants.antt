@@ -1,13 +1,11 @@
 -- Each turn leaves less to fill, and what stands before `done` is what was taken from the reader.
-use Rattle.std.proofs.Common.{◌≡◌, ◌-◌, ◌^◌, ◌<◌, ◌≤◌, length, take}
+use Rattle.std.proofs.Common.{◌-◌, ◌≤◌, length, take}
 use Rattle.std.specs.Io.KnownBytes.{Consumes}
 use Rattle.byte_streams.proofs.read_full.Given as goal
 
 abbrev pub invariant-loop-done : goal.invariant-loop-done
 invariant-loop-done g l = record {
-  same_length : length l.buf ≡ length l.initial.buf;
   within : l.done ≤ length l.buf;
-  small : length l.buf < 2 ^ 64;
   taken : Consumes (g.R.Read.remaining l.initial.from) (g.R.Read.remaining l.from) (take l.done l.buf);
 }
 
