@@ -1,100 +1,83 @@
 -- FIC handling: from the handler's answer to a number and to figures in their places.
 -- Assumes nothing.
 use mathlib.Core.Path.{◌≡◌, refl, sym, ap, ◌∙◌, subst}
-use mathlib.Core.List.{List, [], ◌∷◌, ◌++◌}
-use Prim.Native.Nat.{ℕ, zero, suc, ◌*◌, ◌<◌, ◌≤◌}
+use mathlib.Core.List.{List, ◌++◌}
+use Prim.Native.Nat.{ℕ, suc, ◌*◌, ◌<◌, ◌≤◌}
 use native.Mathlib.Omega.{arith}
 use borrow.Author.Tests.{lt-ltb, le-ltb}
 use lib.Dec.{ltb}
 use lib.ListN.{length, drop}
 use lib.IntN.{ℤ}
-use Rattle.laws.specs.Lists.{list_from, list_of}
-use Rattle.refusal.specs.Outcome.{number_of, or_else, first_of}
-use Rattle.refusal.proofs.Checks.{same_check, no_more, only, passed_by}
-use Rattle.refusal.proofs.Laws.{or_else_assoc, or_else-zero, or_either, first-append, done_by, untouched_by, done_of, untouched_of}
-use Rattle.fec_quality.specs.declared.Quality.{Quality}
+use Rattle.std.specs.Prelude.{Result, Ok, Err}
+use Rattle.refusal.specs.declared.Refusal.{Refusal}
+use Rattle.refusal.specs.Outcome.{or_else, number_of, told}
+use Rattle.refusal.proofs.Checks.{same_check, no_more, passed_by}
+use Rattle.refusal.proofs.Laws.{or_else-zero, done_by, untouched_by, untouched_of, refused-number, given_number, is_refusal}
 use Rattle.fic_handler.specs.declared.Fic.{Fic}
 use Rattle.fic_handler.specs.Blocks.{joined, blocks_in, Buffers}
-use Rattle.fic_handler.specs.Promise.{too_long, too_few, process_refusal, answer_of, Outcomes, FicPromise}
-use Rattle.c_fic.specs.Code.{no_figures, first_four, past_end, FiguresPut, FiguresTold}
-use Rattle.c_fic.specs.Fic.{Figures, few_figures, fic_number, fibs_in, metrics_of, percents_of, FicUntouched, FicWritten, FicCall}
+use Rattle.fic_handler.specs.Promise.{too_long, too_few, process_refusal, Processed, Outcomes, FicPromise}
+use Rattle.c_fic.specs.Fic.{Figures, few_figures, fic_number, counts_of, metrics_of, percents_of, FicUntouched, FicWritten, FicCall}
 
--- the tests of the three symbols
-pub first_over : (a b c : List ℤ) → 3072 < length a → 11 ≡ no_figures a b c
-unfolding too_long
-first_over a b c h = rw (lt-ltb _ _ h) refl
+module _ (a b c : List ℤ) (l : Buffers) (f : Figures) where
+  -- 8 of the places, whatever the handler's own buffers are
+  pub short_places : length a ≤ 3072 → length b ≤ 3072 → length c ≤ 3072 → few_figures f ≡ 8 → fic_number a b c l f ≡ 8
+  unfolding fic_number process_refusal too_long too_few
+  short_places h k m e =
+      ap (or_else (process_refusal a b c l)) e
+      ∙ simp (le-ltb _ _ h, le-ltb _ _ k, le-ltb _ _ m)
+      (passed_by 7 (same_check (ltb (length l.depunctured) 3096) (same_check (ltb (length l.words) 774) (same_check (ltb (length l.bits) 774) (same_check (ltb (length l.fibs) (96 * blocks_in (joined a b c))) no_more)))))
 
-pub second_over : (a b c : List ℤ) → length a ≤ 3072 → 3072 < length b → 11 ≡ no_figures a b c
-unfolding too_long
-second_over a b c h k = rw (le-ltb _ _ h, lt-ltb _ _ k) refl
-
-pub third_over : (a b c : List ℤ) → length a ≤ 3072 → length b ≤ 3072 → 3072 < length c → 11 ≡ no_figures a b c
-unfolding too_long
-third_over a b c h k m = rw (le-ltb _ _ h, le-ltb _ _ k, lt-ltb _ _ m) refl
-
-pub none_over : (a b c : List ℤ) → length a ≤ 3072 → length b ≤ 3072 → length c ≤ 3072 → 8 ≡ no_figures a b c
-unfolding too_long
-none_over a b c h k m = rw (le-ltb _ _ h, le-ltb _ _ k, le-ltb _ _ m) refl
-
--- too few places for the figures are refusal 8
-only_eight : (f : Figures) → (few_figures f ≡ 0 → ⊥) → few_figures f ≡ 8
-only_eight f h = only 7 (same_check (ltb (length f.counts) 5) (same_check (ltb (length f.metrics) 8) (same_check (ltb (length f.percents) 4) no_more))) h
-
--- then the number is 11 where a symbol is too long, and else 8 whatever the handler's own buffers are
-no_figures-number : (a b c : List ℤ) (l : Buffers) (f : Figures) → few_figures f ≡ 8 → no_figures a b c ≡ fic_number a b c l f
-unfolding fic_number process_refusal too_few
-no_figures-number a b c l f e =
-    let over = too_long a ∷ too_long b ∷ too_long c ∷ [] in
-    let fic_buffers = too_few (blocks_in (joined a b c)) l in
-    let each = same_check (ltb (length l.depunctured) 3096) (same_check (ltb (length l.words) 774) (same_check (ltb (length l.bits) 774) (same_check (ltb (length l.fibs) (96 * blocks_in (joined a b c))) no_more))) in
-    sym
-    (ap (or_else (process_refusal a b c l)) e ∙ ap (λ (n : ℕ). or_else n 8) (first-append over fic_buffers) ∙ or_else_assoc (first_of over) (first_of fic_buffers) 8
-    ∙ ap (or_else (first_of over)) (passed_by 7 each))
-
-pub fic_away : {a b c : List ℤ} {l : Buffers} (f : Figures) (k : ℕ) {n : ℕ} → n ≡ few_figures f → (n ≡ 0 → ⊥) → k ≡ no_figures a b c → FicCall a b c l f k l f
-fic_away {a} {b} {c} {l} f k e h q =
-    let m = no_figures-number a b c l f (only_eight f (λ z. h (e ∙ z))) in
-    let over = first_of (too_long a ∷ too_long b ∷ too_long c ∷ []) in
-    record {
-      answer = q ∙ m;
-      left = untouched_by (FicWritten a b c l f l f) (FicUntouched l f l f) (fic_number a b c l f) (λ z. or_either over 8 (λ y. absurd (omega (arith, y))) (m ∙ z)) (record { buffers_are = refl; figures_are = refl });
-    }
-
--- a value for each of four blocks is a list of four
-four-whole : {A : Type 0} (xs : List A) (d : A) (h : ℕ → A) → xs ≡ list_of 4 h → first_four d xs ≡ xs
-unfolding list_from
-four-whole {A} xs d h e = subst (λ (ys : List A). first_four d ys ≡ ys) (sym e) refl
-
--- the handler's answer, told
-module _ (a b c : List ℤ) (l : Buffers) (f : Figures) (enough : few_figures f ≡ 0) (r : Fic) (after : Buffers) where
-  number_is : fic_number a b c l f ≡ process_refusal a b c l
+  pub long_symbol : process_refusal a b c l ≡ 11 → fic_number a b c l f ≡ 11
   unfolding fic_number
-  number_is = ap (or_else (process_refusal a b c l)) enough ∙ or_else-zero (process_refusal a b c l)
+  long_symbol e = ap (λ (n : ℕ). or_else n (few_figures f)) e
 
-  told_by : (n : ℕ) → process_refusal a b c l ≡ n → Outcomes n (joined a b c) l r after → FicPromise a b c l r after → {k : ℕ} {f' : Figures} → FiguresTold r f f' k → FicCall a b c l f k after f'
-  unfolding Outcomes
-  told_by zero e o p {k} {f'} t =
-      let z = ap number_of o.answer in
-      let d = done_of (FiguresPut r f f') (f' ≡ f) (number_of (answer_of r.answer)) z t.figures in
+  pub away : {k : ℕ} → fic_number a b c l f ≡ suc k → FicCall a b c l f (suc k) l f
+  away {k} e =
       record {
-        answer = t.answer ∙ z ∙ sym (number_is ∙ e);
-        left =
-            done_by (FicWritten a b c l f after f') (FicUntouched l f after f') (fic_number a b c l f) (number_is ∙ e)
-            (record {
-              fic = r;
-              processed = p;
-              counts_are = d.counts_are ∙ ap (λ (xs : List ℕ). (fibs_in r.answer ∷ xs) ++ drop 5 f.counts) (four-whole r.passed 0 _ o.passed);
-              metrics_are = d.records.metrics_are ∙ ap (λ (qs : List Quality). metrics_of qs ++ drop 8 f.metrics) (four-whole r.quality past_end _ o.quality);
-              percents_are = d.records.percents_are ∙ ap (λ (qs : List Quality). percents_of qs ++ drop 4 f.percents) (four-whole r.quality past_end _ o.quality);
-            });
-      }
-  told_by (suc n) e o p {k} {f'} t =
-      let z = ap number_of o.0.answer in
-      let kept = untouched_of (FiguresPut r f f') (f' ≡ f) (number_of (answer_of r.answer)) (λ y. absurd (omega (arith, z, y))) t.figures in
-      record {
-        answer = t.answer ∙ z ∙ sym (number_is ∙ e);
-        left = untouched_by (FicWritten a b c l f after f') (FicUntouched l f after f') (fic_number a b c l f) (λ y. absurd (omega (arith, number_is ∙ e, y))) (record { buffers_are = o.1; figures_are = kept });
+        answer = sym e;
+        left = untouched_by (FicWritten a b c l f l f) (FicUntouched l f l f) (fic_number a b c l f) (λ z. omega (arith, e, z)) (record { buffers_are = refl; figures_are = refl });
       }
 
-pub fic-told : {a b c : List ℤ} {l : Buffers} {after : Buffers} (f : Figures) → few_figures f ≡ 0 → (r : Fic) → FicPromise a b c l r after → {k : ℕ} {f' : Figures} → FiguresTold r f f' k → FicCall a b c l f k after f'
-fic-told {a} {b} {c} {l} {after} f enough r p t = told_by a b c l f enough r after (process_refusal a b c l) refl p.outcome p t
+  module _ (enough : few_figures f ≡ 0) where
+    number_is : fic_number a b c l f ≡ process_refusal a b c l
+    unfolding fic_number
+    number_is = ap (or_else (process_refusal a b c l)) enough ∙ or_else-zero (process_refusal a b c l)
+
+    -- the handler has refused, and its refusal is passed on
+    pub refused : {r : Result Fic Refusal} {s : Result (Unit {0}) Refusal} {x : Refusal} {after : Buffers} → r ≡ Err x → s ≡ Err x → FicPromise a b c l r after → FicCall a b c l f (number_of (told s)) after f
+    unfolding Outcomes
+    refused {x = x} {after} e q p =
+        let said = sym (ap told e) ∙ p.answer in
+        let not_zero = is_refusal (process_refusal a b c l) p.fic _ said in
+        record {
+          answer = ap (λ (t : Result (Unit {0}) Refusal). number_of (told t)) q ∙ sym (number_is ∙ refused-number (process_refusal a b c l) p.fic _ said);
+          left =
+              untouched_by (FicWritten a b c l f after f) (FicUntouched l f after f) (fic_number a b c l f) (λ z. not_zero (sym number_is ∙ z))
+              (record { buffers_are = untouched_of (Processed (joined a b c) (blocks_in (joined a b c)) l p.fic after) (after ≡ l) (process_refusal a b c l) not_zero p.outcome; figures_are = refl });
+        }
+
+    -- the handler has answered, and its figures are in their places
+    pub written : {fic : Fic} {r : Result Fic Refusal} {after : Buffers} {f' : Figures} → r ≡ Ok fic → FicPromise a b c l r after → f'.counts ≡ counts_of fic ++ drop 5 f.counts
+        → f'.metrics ≡ metrics_of fic.quality ++ drop 8 f.metrics → f'.percents ≡ percents_of fic.quality ++ drop 4 f.percents → FicCall a b c l f 0 after f'
+    written {fic} {r} {after} {f'} e p s t u =
+        let n : fic_number a b c l f ≡ 0 = number_is ∙ given_number (process_refusal a b c l) p.fic fic (sym (ap told e) ∙ p.answer) in
+        record {
+          answer = sym n;
+          left =
+              done_by (FicWritten a b c l f after f') (FicUntouched l f after f') (fic_number a b c l f) n
+              (record { fic = fic; processed = subst (λ (x : Result Fic Refusal). FicPromise a b c l x after) e p; counts_are = s; metrics_are = t; percents_are = u });
+        }
+
+-- fewer than five counts, eight metrics and sums, or four percentages
+module _ (f : Figures) where
+  pub few_counts : length f.counts < 5 → few_figures f ≡ 8
+  few_counts h = simp (lt-ltb _ _ h)
+
+  pub few_metrics : 5 ≤ length f.counts → length f.metrics < 8 → few_figures f ≡ 8
+  few_metrics g h = simp (le-ltb _ _ g, lt-ltb _ _ h)
+
+  pub few_percents : 5 ≤ length f.counts → 8 ≤ length f.metrics → length f.percents < 4 → few_figures f ≡ 8
+  few_percents g h k = simp (le-ltb _ _ g, le-ltb _ _ h, lt-ltb _ _ k)
+
+  pub enough_figures : 5 ≤ length f.counts → 8 ≤ length f.metrics → 4 ≤ length f.percents → few_figures f ≡ 0
+  enough_figures g h k = simp (le-ltb _ _ g, le-ltb _ _ h, le-ltb _ _ k)

@@ -5,6 +5,7 @@ use mathlib.Core.List.{List, ◌++◌}
 use Prim.Native.Nat.{ℕ, zero, suc}
 use lib.ListN.{drop}
 use lib.IntN.{ℤ}
+use Rattle.std.specs.Prelude.{Ok}
 use Rattle.refusal.specs.Outcome.{unless_refused}
 use Rattle.fic_handler.specs.declared.Fic.{Fic}
 use Rattle.fic_handler.specs.Blocks.{Buffers}
@@ -31,6 +32,6 @@ module _ {a b c : List ℤ} {l : Buffers} {f : Figures} {after after' : Buffers}
 
       go : (n : ℕ) → unless_refused n (FicWritten a b c l f after g) (FicUntouched l f after g) → unless_refused n (FicWritten a b c l f after' g') (FicUntouched l f after' g') → SameFicCall k after g k' after' g'
       go zero p q =
-          let same = fic_unique a b c l p.fic q.fic after after' p.processed q.processed in
-          record { number_is = number-one; buffers_are = same.buffers_are; figures_are = figures-one p q same.answer_is }
+          let same = fic_unique a b c l (Ok p.fic) (Ok q.fic) after after' p.processed q.processed in
+          record { number_is = number-one; buffers_are = same.buffers_are; figures_are = figures-one p q (let z : p.fic ≡ q.fic = cc (same.answer_is) in z) }
       go (suc n) p q = record { number_is = number-one; buffers_are = p.buffers_are ∙ sym q.buffers_are; figures_are = p.figures_are ∙ sym q.figures_are }

@@ -1,10 +1,8 @@
 -- docs/DECISIONS.md, "For C": what document 01's FIC handling returns and writes, its figures into places of their own, and 8 for those.
-use Rattle.std.specs.Prelude.{◌≡◌, List, [], ◌∷◌, ◌++◌, map, ℕ, length, drop, ℤ, Float}
+use Rattle.std.specs.Prelude.{◌≡◌, List, [], ◌∷◌, ◌++◌, map, ℕ, length, drop, ℤ, Float, Ok}
 use Rattle.refusal.specs.Outcome.{or_else, first_of, unless_refused}
 use Rattle.fec_quality.specs.declared.Quality.{Quality}
 use Rattle.fic_handler.specs.declared.Fic.{Fic}
-use Rattle.fic_handler.specs.declared.FicAnswer.{FicAnswer}
-use Rattle.fic_handler.specs.declared.FicAnswer.TheVariants.{Fibs, Refused}
 use Rattle.fic_handler.specs.Blocks.{Buffers}
 use Rattle.fic_handler.specs.Promise.{process_refusal, FicPromise}
 use Rattle.c_description.specs.Places.{short}
@@ -26,14 +24,9 @@ few_figures f = first_of (short 5 (length f.counts) ∷ short 8 (length f.metric
 unfoldable pub fic_number : List ℤ → List ℤ → List ℤ → Buffers → Figures → ℕ
 fic_number s1 s2 s3 l f = or_else (process_refusal s1 s2 s3 l) (few_figures f)
 
--- how many FIBs
-abbrev pub fibs_in : FicAnswer → ℕ
-fibs_in (Fibs n) = n
-fibs_in (Refused r) = 0
-
 -- the figures of an answer: FIBs in all and of each block; the metric of each block, then the sum of each; the percentage of each
 abbrev pub counts_of : Fic → List ℕ
-counts_of r = fibs_in r.answer ∷ r.passed
+counts_of r = r.fibs ∷ r.passed
 
 abbrev pub metrics_of : List Quality → List ℤ
 metrics_of qs = map (λ (q : Quality). q.metric) qs ++ map (λ (q : Quality). q.sum) qs
@@ -49,7 +42,7 @@ pub record FicUntouched (before : Buffers) (f : Figures) (after : Buffers) (f' :
 -- done: as the handler promises, and the figures of its answer before the rest as it was
 pub record FicWritten (s1 s2 s3 : List ℤ) (before : Buffers) (f : Figures) (after : Buffers) (f' : Figures) : Type 0 where
   pub fic : Fic
-  pub processed : FicPromise s1 s2 s3 before fic after
+  pub processed : FicPromise s1 s2 s3 before (Ok fic) after
   pub counts_are : f'.counts ≡ counts_of fic ++ drop 5 f.counts
   pub metrics_are : f'.metrics ≡ metrics_of fic.quality ++ drop 8 f.metrics
   pub percents_are : f'.percents ≡ percents_of fic.quality ++ drop 4 f.percents
