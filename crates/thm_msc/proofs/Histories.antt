@@ -29,8 +29,8 @@ use Rattle.msc_set_up.specs.Promises.{cleared, Prepared}
 use Rattle.msc_state.specs.States.{bad_state, values_of, ring_length, started_at, fresh_state, set_up_checks, set_up_refusal, reset_checks, reset_refusal, whole, channel_after}
 use Rattle.msc_handler.proofs.Feeding.{fed-refuses, fed-gathers, fed-completes}
 use Rattle.msc_handler.proofs.History.{board_fresh, board_elsewhere, board_symbol, board_middle, board-whole, channel_fresh, channel_elsewhere, channel_next, channel_reads_last}
-use Rattle.msc_moves.proofs.States.{after_middle, after-whole}
-use Rattle.msc_state.proofs.Refusals.{Sound, sound, set_up_long, reset-long, Accepted as CallAccepted, accepted}
+use Rattle.thm_msc.proofs.Moves.{after_middle, after-whole}
+use Rattle.msc_state.proofs.Refusals.{Sound, sound, set_up_long, reset_long, Accepted as CallAccepted, accepted}
 use Rattle.spec_sender.specs.Msc.{place_of}
 use Rattle.thm_msc.specs.Calls.{Held, held, held_after, Came, came, after, HeldCall, History, RefusedCall, set_up_refused, reset_refused, feed_refused, set_up, reset, refused, fed, Holds}
 use Rattle.thm_msc.specs.Heard.{LastSixteen}
@@ -183,7 +183,7 @@ module _ {d : Description} {c : Came} {h : Held} (v : Holds d c h) where
 
 pub holds : IsHeld
 holds d _ _ (set_up cif ring r ring' p e) = prepared_holds p cif (not_refused p e) (set_up_long d (length ring) (not_refused p e))
-holds d _ _ (reset s cif ring r ring' q p e) = subst (λ (u : Description). Holds u (came [] []) (held r.state cif ring')) q (prepared_holds p cif (not_refused p e) (reset-long s (length ring) (not_refused p e)))
+holds d _ _ (reset s cif ring r ring' q p e) = subst (λ (u : Description). Holds u (came [] []) (held r.state cif ring')) q (prepared_holds p cif (not_refused p e) (reset_long s (length ring) (not_refused p e)))
 holds d _ c (refused {h} x q) = after-refused (holds d h c x) q
 holds d _ _ (fed {h} {c} soft b r b' x call) = next (holds d h c x) call (turn_of h.state soft b) refl
 

@@ -3,6 +3,7 @@ pub mod Agreement
 pub mod Frames
 pub mod Fronts
 pub mod Histories
+pub mod Moves
 pub mod Receivers
 pub mod Refused
 pub mod Slices

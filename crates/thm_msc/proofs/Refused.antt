@@ -2,11 +2,11 @@
 -- Assumes nothing.
 use mathlib.Core.Path.{refl, ◌≡◌, subst}
 use mathlib.Core.List.{List, []}
-use native.Mathlib.Omega.{arith}
 use lib.IntN.{ℤ}
 use Rattle.spec_en300401.specs.Interleaving.{cif_bits}
 use Rattle.fec_protection.specs.declared.Description.{Description}
 use Rattle.refusal.specs.Outcome.{refuses}
+use Rattle.refusal.specs.declared.Refusal.TheVariants.{BadState}
 use Rattle.msc_handler.specs.declared.Answer.TheVariants.{Refused}
 use Rattle.msc_handler.specs.declared.Fed.{Fed}
 use Rattle.msc_handler.specs.Promises.{Buffers, buffers, turn_of, FeedPromise}
@@ -21,11 +21,11 @@ abbrev bad : State
 bad = record { symbols = 18; cif_in_frame = 0; channel = record { description = no_description; ring_index = 0; cif_count = 0; frames_decoded = 0 } }
 
 abbrev ten : Fed
-ten = record { state = bad; answer = Refused 10 }
+ten = record { state = bad; answer = Refused BadState }
 
 refused_ten : (b : Buffers) → FeedPromise bad [] b ten b
 unfolding feed_refusal bad_state
-refused_ten b = feed_refused bad [] b refl (λ e. omega (arith, e))
+refused_ten b = feed_refused bad [] b BadState refl
 
 turned_away : (b : Buffers) → turn_of bad [] b ≡ refuses 10
 unfolding turn_of feed_refusal bad_state
