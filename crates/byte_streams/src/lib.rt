@@ -1,4 +1,4 @@
-// Reading a buffer full, from any reader, and a buffer for it.
+// Reading a buffer full, from any reader.
 #![tactic(auto)]
 
 ghost use Rattle.std.specs.Prelude.{◌≡◌, ◌<◌, ◌≤◌, length, take, OnOk};
@@ -6,13 +6,6 @@ ghost use Rattle.std.specs.Io.KnownBytes.{Consumes, IsAtEnd};
 
 use std::io;
 use std::io::Read;
-
-// 65,536 zeros: more than a length of two bytes can count. The promise gives only the length.
-pub fn large_buffer() -> [u8; 65536]
-    ensures { 65536 ≡ length result }
-{
-    [0; 65536]
-}
 
 // Reads until the buffer is full, the input ends or a read fails: how many bytes came, which are at the start of the buffer, and the error of the
 // read that failed. On an empty buffer it makes no call. What a reader leaves behind the bytes that it gave is not said.
