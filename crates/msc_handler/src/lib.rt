@@ -19,6 +19,7 @@ use fec_viterbi::Score;
 use msc_state::{Channel, Lengths, State};
 use refusal::Refusal;
 
+// What a symbol gives, in document 01's form: nothing yet, a frame's bytes and its percentage, or a refusal.
 #[derive(Clone, Copy, Debug, PartialEq)]
 pub enum Answer {
     Waiting,
@@ -26,6 +27,7 @@ pub enum Answer {
     Refused(Refusal),
 }
 
+// Document 01's form: the state comes back by value, on a refusal too.
 #[derive(Clone, Copy, Debug, PartialEq)]
 pub struct Fed {
     pub state: State,
@@ -116,7 +118,7 @@ fn store(soft: &[i8], cif: &mut [i8], from: usize)
     cif[from..from + 3072].copy_from_slice(&soft[..3072]);
 }
 
-// The sub-channel's own slice of the CIF, as a part of the store.
+// The sub-channel's own slice of the CIF, as a part of the store: document 01's form.
 #[tactic(auto, unfolding(crate::specs::Ring::part))]
 fn own_slice(cif: &[i8], from: usize, to: usize) -> &[i8]
     requires { (from ≤ to) × (to ≤ length cif.now) }

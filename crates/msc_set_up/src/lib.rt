@@ -9,7 +9,7 @@ use fec_protection::Description;
 use msc_state::State;
 use refusal::Refusal;
 
-// What set-up or reset answers, and the state: a fresh one, or the one that stays on a refusal.
+// Document 01's form: a state by value, on a refusal too, beside the answer.
 #[derive(Clone, Copy, Debug, PartialEq, Eq)]
 pub struct SetUp {
     pub state: State,

@@ -17,7 +17,7 @@ pub struct Channel {
     pub frames_decoded: u64,
 }
 
-// What belongs to the CIF, and the sub-channel.
+// What belongs to the CIF, and the sub-channel. It has no ghost field: C hands eleven numbers back, so `check_feed` and `check_reset` judge any value.
 #[derive(Clone, Copy, Debug, PartialEq, Eq)]
 pub struct State {
     pub symbols: u8,

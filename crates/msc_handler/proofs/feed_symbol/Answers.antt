@@ -3,7 +3,7 @@ use Rattle.std.proofs.Common.{◌≡◌, ap, sym, ◌∙◌, ◌*◌, ℕ, ℤ, 
 use Rattle.std.proofs.Math.Seq.{paste}
 use Rattle.refusal.specs.Outcome.{Outcome, gives, outcome}
 use Rattle.refusal.proofs.Laws.{given_number}
-use Rattle.msc_state.proofs.Refusals.{accepted}
+use Rattle.msc_state.proofs.Refusals.{Accepted, accepted}
 use Rattle.msc_state.specs.declared.Lengths.{Lengths}
 use Rattle.msc_state.specs.declared.State.{State}
 use Rattle.msc_state.specs.States.{feed_refusal}
@@ -13,9 +13,13 @@ use Rattle.msc_handler.specs.Ring.{stored}
 use Rattle.msc_handler.proofs.Feeding.{feed_refused, feed_gathers, feed_completes}
 use Rattle.msc_handler.proofs.feed_symbol.Goals as goal
 
--- the check, of the lengths that the buffers have
-none : (s : State) (soft : List ℤ) (b : Buffers) {l : Lengths} → l ≡ lengths_of b → ◌≡◌ {A = Outcome (Unit {0})} (gives tt) (outcome (feed_refusal s (length soft) l) tt) → refusal_in s soft b ≡ 0
-none s soft b e g = ap (feed_refusal s (length soft)) (sym e) ∙ given_number _ tt tt g
+-- a symbol that is not refused, by the lengths that the buffers have
+module _ (s : State) (soft : List ℤ) (b : Buffers) {l : Lengths} (e : l ≡ lengths_of b) (g : ◌≡◌ {A = Outcome (Unit {0})} (gives tt) (outcome (feed_refusal s (length soft) l) tt)) where
+  none : refusal_in s soft b ≡ 0
+  none = ap (feed_refusal s (length soft)) (sym e) ∙ given_number _ tt tt g
+
+  taken : Accepted s (length soft) (lengths_of b)
+  taken = accepted s (length soft) (lengths_of b) none
 
 kept : (s : State) (soft cif : List ℤ) {k : ℕ} {cif' : List ℤ} → k ≡ s.symbols → cif' ≡ paste cif (3072 * k) soft 3072 → cif' ≡ stored cif s.symbols soft
 unfolding stored
@@ -30,7 +34,7 @@ pub store-requires : goal.store-requires
 store-requires c =
     let a = c.args in
     let b = buffers_in a.memory.now in
-    let k = accepted a.state (length a.soft.now) (lengths_of b) (none a.state a.soft.now b c.lengths.ensures c.in_default.ensures) in
+    let k = taken a.state a.soft.now b c.lengths.ensures c.in_default.ensures in
     (k.symbol, omega (arith, k.state.symbols, k.lengths.cif_long))
 
 pub returns-then-state-lt17-clause-promise : goal.returns-then-state-lt17-clause-promise
@@ -43,7 +47,7 @@ pub process_cif-answer-requires : goal.process_cif-answer-requires
 process_cif-answer-requires c =
     let a = c.args in
     let b = buffers_in a.memory.now in
-    let k = accepted a.state (length a.soft.now) (lengths_of b) (none a.state a.soft.now b c.lengths.ensures c.in_default.ensures) in
+    let k = taken a.state a.soft.now b c.lengths.ensures c.in_default.ensures in
     record {
       index = omega (arith, k.state.index);
       cif_long = omega (arith, k.lengths.cif_long, c.store.auto.cif);
