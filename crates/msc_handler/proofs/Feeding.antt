@@ -36,13 +36,13 @@ delayed-length c ring = length-list_of (values_of c.description) _
 
 -- a whole CIF, from what the code leaves
 module _ (c : Channel) (b : Buffers) {b₁ : Buffers} (turned : b₁ ≡ rotated c b) where
-  pub cif-waits : c.cif_count < 16 → CifPromise c b (gives waiting) b₁
+  pub cif_waits : c.cif_count < 16 → CifPromise c b (gives waiting) b₁
   unfolding Completed
-  cif-waits h = subst (λ (d : Bool). Completed d c b (gives waiting) b₁) (sym (lt-leb 16 c.cif_count h)) (refl, turned)
+  cif_waits h = subst (λ (d : Bool). Completed d c b (gives waiting) b₁) (sym (lt-leb 16 c.cif_count h)) (refl, turned)
 
   -- what is lent stays long enough
-  pub lent-on : FrameLent c.description b → FrameLent c.description b₁
-  lent-on r =
+  pub lent_on : FrameLent c.description b → FrameLent c.description b₁
+  lent_on r =
       subst (FrameLent c.description) (sym turned)
       (record {
         none = r.none;
@@ -59,9 +59,9 @@ module _ (c : Channel) (b : Buffers) {b₁ : Buffers} (turned : b₁ ≡ rotated
       let n = values_of c.description in
       ap (depuncture (mask (profile_of c.description))) (take_at (delayed c b.ring) (drop n b.deinterleaved) n (delayed-length c b.ring))
 
-  pub cif-frames : {b' : Buffers} {p : Float} → 16 ≤ c.cif_count → FrameMade c.description b₁ p b' → CifPromise c b (gives (framed (3 * c.description.bitrate) p)) b'
+  pub cif_frames : {b' : Buffers} {p : Float} → 16 ≤ c.cif_count → FrameMade c.description b₁ p b' → CifPromise c b (gives (framed (3 * c.description.bitrate) p)) b'
   unfolding Completed
-  cif-frames {b'} {p} h made =
+  cif_frames {b'} {p} h made =
       let d = c.description in
       let m = subst (λ (q : Buffers). FrameMade d q p b') turned made in
       subst (λ (e : Bool). Completed e c b (gives (framed (3 * d.bitrate) p)) b') (sym (le-leb 16 c.cif_count h))

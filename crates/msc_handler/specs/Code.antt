@@ -29,10 +29,8 @@ pub record FrameLent (d : Description) (b : Buffers) : Type 0 where
 
 -- both: an accepted description, and all of the caller's buffers
 pub record CifLent (c : Channel) (b : Buffers) : Type 0 where
-  pub index : c.ring_index < 16
-  pub cif_long : cif_bits ≤ length b.cif
-  pub ring_long : ring_length c.description ≤ length b.ring
-  pub rest : FrameLent c.description b
+  pub ring : RingLent c b
+  pub frame : FrameLent c.description b
 
 -- the depunctured values of what was read
 abbrev pub values_in : Description → List ℤ → List ℤ

@@ -171,6 +171,7 @@ fn frame_of(
 }
 
 // A whole CIF: through the ring, and to a frame where sixteen went before it.
+#[tactic(auto, using(crate::proofs::Feeding::cif_waits, crate::proofs::Feeding::cif_frames))]
 fn process_cif(channel: Channel, memory: &mut Memory) -> Answer
     requires { CifLent channel (buffers_in memory.old) }
     ensures promise { CifPromise channel (buffers_in memory.old) (said_of result) (buffers_in memory.new) }

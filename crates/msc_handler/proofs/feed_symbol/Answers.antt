@@ -3,6 +3,7 @@ use Rattle.std.proofs.Common.{◌≡◌, ap, sym, ◌∙◌, ◌*◌, ℕ, ℤ, 
 use Rattle.std.proofs.Math.Seq.{paste}
 use Rattle.refusal.specs.Outcome.{Outcome, gives, outcome}
 use Rattle.refusal.proofs.Laws.{given_number}
+use Rattle.fec_protection.proofs.Profiles.{accepted-place}
 use Rattle.msc_state.proofs.Refusals.{Accepted, accepted}
 use Rattle.msc_state.specs.declared.Lengths.{Lengths}
 use Rattle.msc_state.specs.declared.State.{State}
@@ -49,10 +50,15 @@ process_cif-answer-requires c =
     let b = buffers_in a.memory.now in
     let k = taken a.state a.soft.now b c.lengths.ensures c.in_default.ensures in
     record {
-      index = omega (arith, k.state.index);
-      cif_long = omega (arith, k.lengths.cif_long, c.store.auto.cif);
-      ring_long = k.lengths.ring_long;
-      rest =
+      ring =
+          record {
+            index = omega (arith, k.state.index);
+            inside = accepted-place _ k.state.description;
+            cif_long = omega (arith, k.lengths.cif_long, c.store.auto.cif);
+            ring_long = k.lengths.ring_long;
+            read_long = k.lengths.read_long;
+          };
+      frame =
           record {
             none = k.state.description;
             read_long = k.lengths.read_long;
