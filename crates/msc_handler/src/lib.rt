@@ -16,7 +16,7 @@ ghost use Rattle.msc_state.specs.States.{values_of};
 
 use fec_protection::Description;
 use fec_viterbi::Score;
-use msc_state::{Channel, Lengths, State};
+use msc_state::{Channel, Lengths, SYMBOL_VALUES, State};
 use refusal::Refusal;
 
 // What a symbol gives, in document 01's form: nothing yet, a frame's bytes and its percentage, or a refusal.
@@ -115,7 +115,7 @@ fn store(soft: &[i8], cif: &mut [i8], from: usize)
     requires { (3072 ≤ length soft.now) × (from + 3072 ≤ length cif.old) }
     ensures { cif.new ≡ paste cif.old from soft.now 3072 }
 {
-    cif[from..from + 3072].copy_from_slice(&soft[..3072]);
+    cif[from..from + SYMBOL_VALUES].copy_from_slice(&soft[..SYMBOL_VALUES]);
 }
 
 // The sub-channel's own slice of the CIF, as a part of the store: document 01's form.
@@ -198,7 +198,7 @@ pub fn feed_symbol(state: State, soft: &[i8], memory: &mut Memory) -> Fed
         };
     }
     let after = msc_moves::after_symbol(state);
-    store(soft, memory.cif, 3072 * usize::from(state.symbols));
+    store(soft, memory.cif, SYMBOL_VALUES * usize::from(state.symbols));
     if state.symbols < 17 {
         return Fed {
             state: after,

@@ -8,6 +8,11 @@ ghost use Rattle.msc_state.specs.States.{ring_length, bad_state, is_too_short, s
 use fec_protection::Description;
 use refusal::Refusal;
 
+// Values of a CIF, 864 units of 64, and of a symbol, of which a CIF has eighteen.
+pub const CIF_VALUES: usize = 55_296;
+
+pub const SYMBOL_VALUES: usize = 3_072;
+
 // What belongs to the sub-channel.
 #[derive(Clone, Copy, Debug, PartialEq, Eq)]
 pub struct Channel {
@@ -76,7 +81,7 @@ fn too_short(d: Description, lengths: Lengths) -> bool
 {
     let size = usize::from(d.sub_size);
     let rate = usize::from(d.bitrate);
-    lengths.cif < 55_296
+    lengths.cif < CIF_VALUES
         || lengths.ring < 1024 * size
         || lengths.deinterleaved < 64 * size
         || lengths.depunctured < 96 * rate + 24
@@ -132,7 +137,7 @@ pub fn check_feed(state: State, soft: usize, lengths: Lengths) -> Result<(), Ref
     if too_short(state.channel.description, lengths) {
         return Err(Refusal::ShortBuffer);
     }
-    if soft < 3072 {
+    if soft < SYMBOL_VALUES {
         return Err(Refusal::ShortSymbol);
     }
     Ok(())
