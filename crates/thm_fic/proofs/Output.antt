@@ -10,9 +10,13 @@ use borrow.Author.Tests.{lt-ltb}
 use lib.ListN.{length, get_or, take, drop, length-append}
 use lib.Seq.{take_at, drop_at}
 use lib.IntN.{ℤ}
-use Rattle.refusal.specs.Outcome.{gives, refuses}
+use Rattle.std.specs.Prelude.{Result, Ok}
+use Rattle.refusal.specs.declared.Refusal.{Refusal}
+use Rattle.refusal.proofs.Laws.{given_number, given_value}
+use Rattle.refusal.proofs.Told.{is-ok}
+use Rattle.fic_handler.specs.declared.Fic.{Fic}
 use Rattle.fic_handler.specs.Blocks.{joined, blocks_in, data_bits, passed_bytes, count_of, Block, IsBlock, written, total}
-use Rattle.fic_handler.specs.Promise.{process_refusal, four, Processed, Outcomes}
+use Rattle.fic_handler.specs.Promise.{process_refusal, four, Processed, Outcomes, FicPromise}
 use Rattle.fic_handler.proofs.Run.{four-at, written-length}
 use Rattle.fic_handler.proofs.Refusals.{first-long, second-long, third-long, no_refusal}
 use Rattle.spec_sender.specs.Fic.{fibs_of}
@@ -85,12 +89,7 @@ module _ (c : TakenCall) where
 
   -- the call was not refused: it has no refusal
   none_given : refusal ≡ 0
-  unfolding Outcomes
-  none_given = go refusal c.promise.outcome
-    where
-      go : (n : ℕ) → Outcomes n values c.before c.result c.after → n ≡ 0
-      go zero o = refl
-      go (suc n) o = let e : refuses (suc n) ≡ gives c.count = sym o.0.answer ∙ c.answer in let z : ◌≡◌ {A = ℕ} 0 1 = cc in absurd (omega arith)
+  none_given = given_number refusal c.promise.fic c.result c.promise.answer
 
   -- so it has four blocks at the most
   short : (s : List ℤ) → (3072 < length s → refusal ≡ 11) → length s ≤ 3072
@@ -109,7 +108,9 @@ module _ (c : TakenCall) where
 
   processed : Processed values (blocks_in values) c.before c.result c.after
   unfolding Outcomes
-  processed = subst (λ (n : ℕ). Outcomes n values c.before c.result c.after) none_given c.promise.outcome
+  processed =
+      subst (λ (fic : Fic). Processed values (blocks_in values) c.before fic c.after) (sym (given_value refusal c.promise.fic c.result c.promise.answer))
+      (subst (λ (n : ℕ). Outcomes n values c.before c.promise.fic c.after) none_given c.promise.outcome)
 
 pub fibs_come_out : CleanBlockComesOut
 fibs_come_out c f b h =
@@ -128,7 +129,7 @@ fibs_come_out c f b h =
 pub all_come_out : CleanBlocksComeOut
 all_come_out c fs h =
     record {
-      answer = p.answer ∙ ap gives (counted-all k n three);
+      count = p.answer ∙ counted-all k n three;
       bytes = λ b l. ap (λ (m : ℕ). take 96 (drop m c.after.fibs)) (sym (earlier b l)) ∙ (fibs_come_out c (fs b) b (h b l)).bytes;
     }
   where
@@ -152,8 +153,8 @@ all_come_out c fs h =
         omega (arith, e, u)
 
 pub whole_fic_comes_out : WholeFicComesOut
-unfolding Outcomes
-whole_fic_comes_out s1 s2 s3 full before long r after promise fs agrees = subst (λ (n : ℕ). AllComeOut fs n r after) four-blocks (all_come_out call fs heard)
+whole_fic_comes_out s1 s2 s3 full before long r after promise fs agrees =
+    record { fic = promise.fic; given = given; all = subst (λ (n : ℕ). AllComeOut fs n promise.fic after) four-blocks (all_come_out call fs heard) }
   where
     joined-long : length (joined s1 s2 s3) ≡ 9216
     joined-long = length-append s1 (s2 ++ s3) ∙ omega (arith, length-append s2 s3, full.first, full.second, full.third)
@@ -165,11 +166,20 @@ whole_fic_comes_out s1 s2 s3 full before long r after promise fs agrees = subst 
     none =
         no_refusal s1 s2 s3 before (omega (arith, full.first)) (omega (arith, full.second)) (omega (arith, full.third)) long.values long.words long.bits (omega (arith, four-blocks, long.fibs))
 
-    done : Processed (joined s1 s2 s3) (blocks_in (joined s1 s2 s3)) before r after
-    done = subst (λ (n : ℕ). Outcomes n (joined s1 s2 s3) before r after) none promise.outcome
+    given : r ≡ Ok promise.fic
+    given = is-ok r (process_refusal s1 s2 s3 before) promise.fic promise.answer none
 
     call : TakenCall
-    call = record { s1 = s1; s2 = s2; s3 = s3; before = before; result = r; after = after; promise = promise; count = _; answer = done.answer }
+    call =
+        record {
+          s1 = s1;
+          s2 = s2;
+          s3 = s3;
+          before = before;
+          result = promise.fic;
+          after = after;
+          promise = subst (λ (a : Result Fic Refusal). FicPromise s1 s2 s3 before a after) given promise;
+        }
 
     heard : (b : ℕ) → b < blocks_in (joined s1 s2 s3) → Heard (fs b) (joined s1 s2 s3) b
     heard b l = record { whole = l; agrees = λ i h. agrees b i (omega (arith, l, four-blocks)) h }

@@ -1,12 +1,12 @@
 -- Document 01, fic/handler.rs and "What the receiver owes": a block that was heard clean, and what then comes out.
-use Rattle.std.specs.Prelude.{◌≡◌, List, ℕ, zero, suc, ◌+◌, ◌*◌, ◌<◌, ◌≤◌, length, get_or, take, drop, ℤ}
+use Rattle.std.specs.Prelude.{◌≡◌, List, ℕ, zero, suc, ◌+◌, ◌*◌, ◌<◌, ◌≤◌, length, get_or, take, drop, ℤ, Result, Ok}
 use Rattle.laws.specs.Integers.{at}
-use Rattle.refusal.specs.Outcome.{gives}
+use Rattle.refusal.specs.declared.Refusal.{Refusal}
 use Rattle.spec_trellis.specs.Clean.{Agrees}
 use Rattle.spec_sender.specs.Fic.{Data, fibs_of, block_sent}
 use Rattle.fic_handler.specs.declared.Fic.{Fic}
 use Rattle.fic_handler.specs.Blocks.{joined, blocks_in, Buffers}
-use Rattle.fic_handler.specs.Promise.{answer_of, FicPromise}
+use Rattle.fic_handler.specs.Promise.{FicPromise}
 
 -- a call of `process_fic` on three symbols that was not refused
 pub record TakenCall : Type 0 where
@@ -16,9 +16,7 @@ pub record TakenCall : Type 0 where
   pub before : Buffers
   pub result : Fic
   pub after : Buffers
-  pub promise : FicPromise s1 s2 s3 before result after
-  pub count : ℕ
-  pub answer : answer_of result.answer ≡ gives count
+  pub promise : FicPromise s1 s2 s3 before (Ok result) after
 
 -- its values, joined
 abbrev pub values_of : TakenCall → List ℤ
@@ -41,8 +39,14 @@ pub record ComeOut (f : Data) (b : ℕ) (r : Fic) (after : Buffers) : Type 0 whe
 
 -- all of n blocks: three FIBs each, and their bytes in order
 pub record AllComeOut (fs : ℕ → Data) (n : ℕ) (r : Fic) (after : Buffers) : Type 0 where
-  pub answer : answer_of r.answer ≡ gives (3 * n)
+  pub count : r.fibs ≡ 3 * n
   pub bytes : (b : ℕ) → b < n → take 96 (drop (96 * b) after.fibs) ≡ fibs_of (fs b)
+
+-- the call is not refused, and all of n blocks come out
+pub record GivenWhole (fs : ℕ → Data) (n : ℕ) (r : Result Fic Refusal) (after : Buffers) : Type 0 where
+  pub fic : Fic
+  pub given : r ≡ Ok fic
+  pub all : AllComeOut fs n fic after
 
 -- the caller's buffers have what four blocks need
 pub record LongEnough (l : Buffers) : Type 0 where

@@ -1,12 +1,13 @@
 -- Document 01, "What the receiver owes": the FIC's theorem. Proved in proofs/Output.antt.
-use Rattle.std.specs.Prelude.{List, ℕ, ◌+◌, ◌*◌, ◌<◌, get_or, ℤ}
+use Rattle.std.specs.Prelude.{List, ℕ, ◌+◌, ◌*◌, ◌<◌, get_or, ℤ, Result}
 use Rattle.laws.specs.Integers.{at}
+use Rattle.refusal.specs.declared.Refusal.{Refusal}
 use Rattle.spec_trellis.specs.Clean.{Agrees}
 use Rattle.spec_sender.specs.Fic.{Data, block_sent}
 use Rattle.fic_handler.specs.declared.Fic.{Fic}
 use Rattle.fic_handler.specs.Blocks.{joined, blocks_in, Buffers}
 use Rattle.fic_handler.specs.Promise.{FicPromise}
-use Rattle.thm_fic.specs.Heard.{TakenCall, values_of, Heard, ComeOut, AllComeOut, LongEnough, FullSymbols}
+use Rattle.thm_fic.specs.Heard.{TakenCall, values_of, Heard, ComeOut, AllComeOut, GivenWhole, LongEnough, FullSymbols}
 
 -- a block heard clean: its three FIBs come out, whatever the other blocks hold
 abbrev pub CleanBlockComesOut : Type 0
@@ -22,5 +23,5 @@ CleanBlocksComeOut =
 -- twelve FIBs that were sent
 abbrev pub WholeFicComesOut : Type 0
 WholeFicComesOut =
-    (s1 s2 s3 : List ℤ) → FullSymbols s1 s2 s3 → (before : Buffers) → LongEnough before → (r : Fic) (after : Buffers) → FicPromise s1 s2 s3 before r after
-    → (fs : ℕ → Data) → ((b i : ℕ) → b < 4 → i < 2304 → Agrees (at (joined s1 s2 s3) (2304 * b + i)) (get_or (block_sent (fs b)) i 0)) → AllComeOut fs 4 r after
+    (s1 s2 s3 : List ℤ) → FullSymbols s1 s2 s3 → (before : Buffers) → LongEnough before → (r : Result Fic Refusal) (after : Buffers) → FicPromise s1 s2 s3 before r after
+    → (fs : ℕ → Data) → ((b i : ℕ) → b < 4 → i < 2304 → Agrees (at (joined s1 s2 s3) (2304 * b + i)) (get_or (block_sent (fs b)) i 0)) → GivenWhole fs 4 r after
