@@ -53,6 +53,7 @@ pub fn fib_crc_valid(fib: &[u8]) -> bool
     !crc_bytes(covered) == u16::from_be_bytes([sent[0], sent[1]])
 }
 
+// Whether each value is a bit. In a function of its own, since a caller's proof knows a chain's value only by a clause.
 fn are_bits(bits: &[u8]) -> bool
     ensures { result ≡ all_bits bits.now }
 {
