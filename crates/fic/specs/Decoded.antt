@@ -1,13 +1,6 @@
 -- Document 01, "Program `fic`": what three full symbols give.
 use Rattle.std.specs.Prelude.{◌≡◌, List, ℕ, ◌*◌, ◌<◌, ◌≤◌, ℤ, take}
-use Rattle.fic_handler.specs.declared.FicAnswer.{FicAnswer}
-use Rattle.fic_handler.specs.declared.FicAnswer.TheVariants.{Fibs, Refused}
 use Rattle.fic_handler.specs.Blocks.{Block, IsBlock, written, total}
-
--- how many FIBs an answer counts
-abbrev pub fibs_in : FicAnswer → ℕ
-fibs_in (Fibs n) = n
-fibs_in (Refused r) = 0
 
 -- the FIBs that pass of the four blocks of 9,216 values, 32 bytes each, stand at the start of the output: r bytes
 pub record FibsOf (soft : List ℤ) (r : ℕ) (fibs : List ℕ) : Type 0 where

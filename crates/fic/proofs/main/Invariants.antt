@@ -1,5 +1,0 @@
--- Each turn leaves one fewer.
-use Rattle.fic.proofs.main.Given as goal
-
-abbrev pub decreases-loop-turns : goal.decreases-loop-turns
-decreases-loop-turns l = l.turns
