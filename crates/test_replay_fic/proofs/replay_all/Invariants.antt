@@ -1,5 +1,0 @@
--- Each turn leaves one fewer.
-use Rattle.test_replay_fic.proofs.replay_all.Given as goal
-
-abbrev pub decreases-loop-turns : goal.decreases-loop-turns
-decreases-loop-turns g l = l.turns
