@@ -121,12 +121,8 @@ fn eep(level: u8, bitrate: u16, start: u16, size: u16) -> Description {
 
 fn uep(level: u8, bitrate: u16, size: u16) -> Description {
     Description {
-        start_addr: 0,
-        sub_size: size,
-        bitrate,
-        protection_level: level,
-        eep_option: 0,
         is_eep: false,
+        ..eep(level, bitrate, 0, size)
     }
 }
 
