@@ -1,14 +1,14 @@
--- Refusal 12, by the two lengths, and the answer of emptying.
+-- Refusal 12, by the two lengths, and what emptying leaves.
 -- Assumes nothing.
 use mathlib.Core.Path.{◌≡◌, sym, ap, ◌∙◌}
-use mathlib.Core.List.{◌++◌}
+use mathlib.Core.List.{List, ◌++◌}
 use Prim.Native.Nat.{ℕ, ◌<◌, ◌≤◌}
 use borrow.Author.Tests.{lt-ltb, le-ltb}
-use lib.ListN.{length, replicate, drop}
-use Rattle.refusal.specs.Outcome.{outcome, unless_refused}
-use Rattle.fec_protection.specs.declared.Judged.TheVariants.{«Accepted» as judged-accepted, «Refused» as judged-refused}
+use lib.ListN.{length, replicate, take, drop}
+use lib.Seq.{length-take-le}
+use Rattle.refusal.specs.Outcome.{unless_refused}
 use Rattle.fic_directory_places.specs.Places.{Held, held}
-use Rattle.fic_directory_places.specs.Promises.{directory_refusal, emptied, EmptyPromise}
+use Rattle.fic_directory_places.specs.Promises.{directory_refusal, emptied}
 
 pub few-subs : (m n : ℕ) → m < 64 → directory_refusal m n ≡ 12
 unfolding directory_refusal
@@ -22,13 +22,11 @@ pub enough : (m n : ℕ) → 64 ≤ m → 256 ≤ n → directory_refusal m n �
 unfolding directory_refusal
 enough m n h l = rw (le-ltb m 64 h, le-ltb n 256 l)
 
-abbrev number : Held → ℕ
-number h = directory_refusal (length h.subs) (length h.services)
-
-pub empty_refused : (h : Held) → number h ≡ 12 → EmptyPromise h (judged-refused (record { number = 12 })) h
-empty_refused h e = record { answer = sym (ap (λ (n : ℕ). outcome n tt) e); numbers = sym (ap (λ (n : ℕ). unless_refused n (emptied h) h) e) }
-
-pub empty_done : (h after : Held) → number h ≡ 0 → after.subs ≡ replicate 64 0 ++ drop 64 h.subs → after.services ≡ replicate 256 0 ++ drop 256 h.services → EmptyPromise h judged-accepted after
+pub zeroed : (h : Held) (xs ys : List ℕ) → 64 ≤ length h.subs → 256 ≤ length h.services → xs ≡ replicate (length (take 64 h.subs)) 0 → ys ≡ replicate (length (take 256 h.services)) 0
+    → held (xs ++ drop 64 h.subs) (ys ++ drop 256 h.services) ≡ unless_refused (directory_refusal (length h.subs) (length h.services)) (emptied h) h
 unfolding emptied
-empty_done h after e f g =
-    record { answer = sym (ap (λ (n : ℕ). outcome n tt) e); numbers = (λ i. held (f i) (g i)) ∙ sym (ap (λ (n : ℕ). unless_refused n (emptied h) h) e) }
+zeroed h xs ys m n e f =
+    let subs : xs ≡ replicate 64 0 = e ∙ ap (λ (k : ℕ). replicate k 0) (length-take-le 64 h.subs m) in
+    let services : ys ≡ replicate 256 0 = f ∙ ap (λ (k : ℕ). replicate k 0) (length-take-le 256 h.services n) in
+    (λ i. held (subs i ++ drop 64 h.subs) (services i ++ drop 256 h.services))
+    ∙ sym (ap (λ (k : ℕ). unless_refused k (emptied h) h) (enough (length h.subs) (length h.services) m n))
