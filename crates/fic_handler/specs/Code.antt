@@ -1,4 +1,4 @@
--- What the private functions of the crate ask and promise: one FIB, one block, and the blocks of a call.
+-- What the private functions of the crate promise: the FIBs of a block, and one block.
 use Rattle.std.specs.Prelude.{◌≡◌, List, ◌++◌, ℕ, ◌*◌, drop, ℤ}
 use Rattle.spec_en300401.specs.Puncturing.{mask, depuncture, fic_profile}
 use Rattle.spec_trellis.specs.Trellis.{zero_end}

@@ -107,6 +107,7 @@ fn decode_block(
 }
 
 // One block: depunctured, decoded, dispersed, and its FIBs tested; those that passed stand at the start of the output.
+// The work arrays stay three parameters, here and below: a struct of three `&mut` would need a clause and a borrow more for each.
 fn process_block(
     block: &[i8; BLOCK],
     depunctured: &mut [i8; VALUES],
