@@ -33,6 +33,11 @@ named_back ShortDirectory = refl
 pub numbered_one : (r s : Refusal) → numbered r ≡ numbered s → r ≡ s
 numbered_one r s e = sym (named_back r) ∙ ap named e ∙ named_back s
 
+pub numbered-positive : (r : Refusal) → numbered r ≡ 0 → ⊥
+numbered-positive r e =
+    let first : NoSuchOption ≡ r = sym (ap named e) ∙ named_back r in
+    omega (arith, ap numbered first, e)
+
 pub told_one : {A : Type 0} (r s : Result A Refusal) → told r ≡ told s → r ≡ s
 told_one (Ok a) (Ok b) e = let x : a ≡ b = cc in ap Ok x
 told_one (Ok a) (Err y) e = let z : ◌≡◌ {A = ℕ} 0 1 = cc in absurd (omega arith)
