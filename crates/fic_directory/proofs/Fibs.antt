@@ -4,63 +4,60 @@ use mathlib.Core.Path.{◌≡◌, refl, sym, ap, ◌∙◌, subst}
 use mathlib.Core.Bool.{Bool, true, false, cond}
 use mathlib.Core.List.{List, [], ◌∷◌}
 use mathlib.Core.Option.{Option, none, some}
-use Prim.Native.Nat.{ℕ, suc, ◌+◌, ◌*◌, ◌-◌, ◌/◌, ◌<◌, ◌≤◌, ◌^◌}
+use Prim.Native.Nat.{ℕ, zero, suc, ◌+◌, ◌*◌, ◌/◌, ◌<◌, ◌≤◌}
 use native.Mathlib.Omega.{arith}
+use native.Mathlib.Numerals.{add-one}
 use borrow.Author.Tests.{ne_eqb, eqb-true}
 use lib.Dec.{eqb}
-use lib.ListN.{length, take, drop, length-take, length-drop}
-use lib.Seq.{drop-drop, take-take}
+use lib.ListN.{length, get_or, take, drop, length-drop, drop_of_length-le}
+use lib.Seq.{drop-cons, length-take-le}
+use Rattle.std.specs.Prelude.{Option as Answer}
+use Rattle.std.specs.Simd.{first_chunks}
 use Rattle.laws.specs.Words.{pick_n}
-use Rattle.laws.proofs.Slices.{size_of_part}
-use Rattle.spec_en300401.specs.Fib.{Field, field_from, field_of, fib_bytes}
+use Rattle.spec_en300401.specs.Fib.{Field, field_from, field_of}
 use Rattle.spec_en300401.specs.Organisation.{entries_of, entries_of_all}
 use Rattle.spec_en300401.specs.Directory.{fibs_in, counted, broken_fibs, Broken, or_broken, first_broken}
 use Rattle.fic_directory_places.specs.Places.{Held}
+use Rattle.fic_directory_places.specs.Promises.{answered}
 use Rattle.fic_directory.specs.declared.Reading.{Reading}
 use Rattle.fic_directory.specs.Promises.{Entered, entered, put_all, fibs_of, entries_of_fibs, read_into, reading_of}
-use Rattle.fic_directory.specs.Code.{figs_from, FieldDone, Few, noted_by, AllRead}
+use Rattle.fic_directory.specs.Code.{and_beyond, figs_from, FieldDone, noted_by, AllRead}
 use Rattle.fic_directory.proofs.Figs.{all_append}
-use Rattle.fic_directory.proofs.Notes.{reading}
 
--- the whole FIBs from a byte on
-abbrev fibs_from : ℕ → List ℕ → List (List ℕ)
-fibs_from at bytes = fibs_in ((length bytes - at) / fib_bytes) (drop at bytes)
+-- the code's pieces of 32 bytes are the FIBs
+pub pieces : (n : ℕ) (bs : List ℕ) → first_chunks 32 n bs ≡ fibs_in n bs
+unfolding fibs_in
+pieces zero bs = refl
+pieces (suc n) bs = ap (λ (fs : List (List ℕ)). take 32 bs ∷ fs) (pieces n (drop 32 bs))
 
+length-fibs_in : (n : ℕ) (bs : List ℕ) → length (fibs_in n bs) ≡ n
+unfolding fibs_in
+length-fibs_in zero bs = refl
+length-fibs_in (suc n) bs = ap suc (length-fibs_in n (drop 32 bs))
+
+fib_long : (n : ℕ) (bs : List ℕ) (k : ℕ) → 32 * n ≤ length bs → k < n → length (get_or (fibs_in n bs) k []) ≡ 32
+unfolding fibs_in
+fib_long zero bs k h l = absurd (omega arith)
+fib_long (suc n) bs zero h l = length-take-le 32 bs (omega arith)
+fib_long (suc n) bs (suc k) h l = fib_long n (drop 32 bs) k (omega (arith, length-drop 32 bs)) (omega arith)
+
+-- the first broken FIB of those read, or else of those to come
 abbrev first_in : Reading → Broken
 first_in r = record { fib = r.first_fib; offset = r.first_offset }
 
--- the first broken FIB of those read, or else of those to come
 abbrev first_or : Reading → Broken → Broken
 first_or r later = cond (eqb r.broken 0) later (first_in r)
 
-pub record Going (bytes : List ℕ) (old now : Held) (r : Reading) (at : ℕ) : Type 0 where
-  pub inside : at ≤ length bytes
-  pub count : at ≡ 32 * r.fibs
+pub record Going (bytes : List ℕ) (old now : Held) (r : Reading) (k : ℕ) : Type 0 where
+  pub count : r.fibs ≡ k
   pub broken_few : r.broken ≤ r.fibs
   pub left_few : r.left_out ≤ 30 * r.fibs
-  pub puts : put_all (entries_of_fibs (fibs_of bytes)) (entered old 0) ≡ put_all (entries_of_fibs (fibs_from at bytes)) (entered now r.left_out)
-  pub brokens : broken_fibs (fibs_of bytes) ≡ r.broken + broken_fibs (fibs_from at bytes)
-  pub first : first_broken 0 (fibs_of bytes) ≡ first_or r (first_broken r.fibs (fibs_from at bytes))
+  pub puts : (beyond : Held) → put_all (entries_of_fibs (fibs_of bytes)) (entered (and_beyond old beyond) 0) ≡ put_all (entries_of_fibs (drop k (fibs_of bytes))) (entered (and_beyond now beyond) r.left_out)
+  pub brokens : broken_fibs (fibs_of bytes) ≡ r.broken + broken_fibs (drop k (fibs_of bytes))
+  pub first : first_broken 0 (fibs_of bytes) ≡ first_or r (first_broken r.fibs (drop k (fibs_of bytes)))
   pub none_yet : r.broken ≡ 0 → (r.first_fib ≡ 0) × (r.first_offset ≡ 0)
 
--- one FIB more
-one_more : (bytes : List ℕ) (at : ℕ) → 32 ≤ length bytes - at → fibs_from at bytes ≡ take 32 (drop at bytes) ∷ fibs_from (at + 32) bytes
-unfolding fibs_in
-one_more bytes at h =
-    let n : (length bytes - at) / 32 ≡ suc ((length bytes - (at + 32)) / 32) = omega arith in
-    ap (λ (k : ℕ). fibs_in k (drop at bytes)) n
-    ∙ ap (λ (xs : List ℕ). take 32 (drop at bytes) ∷ fibs_in ((length bytes - (at + 32)) / 32) xs) (drop-drop 32 at bytes)
-
-field_is : (bytes : List ℕ) (at : ℕ) → 32 ≤ length bytes - at → field_of (take 32 (drop at bytes)) ≡ figs_from 0 (take (at + 30 - at) (drop at bytes))
-unfolding field_of
-field_is bytes at h =
-    let k : 30 ≡ at + 30 - at = sym (size_of_part at 30) in
-    let n : 30 ≡ length (take (at + 30 - at) (drop at bytes)) = simp (length-take, length-drop) (omega arith) in
-    (λ i. field_from 30 0 (take-take 30 32 (drop at bytes) (omega arith) i))
-    ∙ (λ i. field_from (n i) 0 (take (k i) (drop at bytes)))
-
-noted_first : (r : Reading) (e : Option ℕ) (left : ℕ) (later : Broken) → first_or r (or_broken e r.fibs later) ≡ first_or (noted_by r e left) later
-unfolding noted_by
+noted_first : (r : Reading) (o : Option ℕ) (left : ℕ) (later : Broken) → first_or r (or_broken o r.fibs later) ≡ first_or (noted_by r (answered o) left) later
 noted_first r none left later = refl
 noted_first r (some o) left later = go (eqb r.broken 0) ∙ sym (ap (λ (b : Bool). cond b later (record { fib = pick_n (eqb r.broken 0) r.fibs r.first_fib; offset = pick_n (eqb r.broken 0) o r.first_offset })) (ne_eqb (r.broken + 1) 0 (λ z. omega arith)))
   where
@@ -68,81 +65,91 @@ noted_first r (some o) left later = go (eqb r.broken 0) ∙ sym (ap (λ (b : Boo
     go true = refl
     go false = refl
 
-noted_counts : (r : Reading) (e : Option ℕ) (left : ℕ) → ((noted_by r e left).fibs ≡ r.fibs + 1) × ((noted_by r e left).broken ≡ r.broken + counted e) × ((noted_by r e left).left_out ≡ r.left_out + left)
-unfolding noted_by
+noted_counts : (r : Reading) (o : Option ℕ) (left : ℕ) → ((noted_by r (answered o) left).fibs ≡ r.fibs + 1) × ((noted_by r (answered o) left).broken ≡ r.broken + counted o) × ((noted_by r (answered o) left).left_out ≡ r.left_out + left)
 noted_counts r none left = (refl, omega arith, refl)
 noted_counts r (some o) left = (refl, refl, refl)
 
-noted_none : (r : Reading) (e : Option ℕ) (left : ℕ) → (r.broken ≡ 0 → (r.first_fib ≡ 0) × (r.first_offset ≡ 0)) → (noted_by r e left).broken ≡ 0 → ((noted_by r e left).first_fib ≡ 0) × ((noted_by r e left).first_offset ≡ 0)
-unfolding noted_by
+noted_none : (r : Reading) (o : Option ℕ) (left : ℕ) → (r.broken ≡ 0 → (r.first_fib ≡ 0) × (r.first_offset ≡ 0)) → (noted_by r (answered o) left).broken ≡ 0
+    → ((noted_by r (answered o) left).first_fib ≡ 0) × ((noted_by r (answered o) left).first_offset ≡ 0)
 noted_none r none left f z = f z
 noted_none r (some o) left f z = absurd (omega arith)
 
-counted-one : (e : Option ℕ) → counted e ≤ 1
+counted-one : (o : Option ℕ) → counted o ≤ 1
 counted-one none = omega arith
 counted-one (some o) = omega arith
 
-module _ {bytes : List ℕ} {old now : Held} {r : Reading} {at : ℕ} (v : Going bytes old now r at) where
-  field-few : (new : Held) (e : Option ℕ) (left : ℕ) → 32 ≤ length bytes - at → FieldDone (take (at + 30 - at) (drop at bytes)) now e left new → left ≤ 30
-  field-few new e left h d = omega (arith, d.few, length-take (at + 30 - at) (drop at bytes))
-
-  pub few : (new : Held) (e : Option ℕ) (left : ℕ) → 32 ≤ length bytes - at → length bytes < 2 ^ 64 → FieldDone (take (at + 30 - at) (drop at bytes)) now e left new → Few r left
-  few new e left h m d = record { fibs_few = omega (arith, v.count, v.inside); broken_few = v.broken_few; left_few = v.left_few; one_few = field-few new e left h d }
-
-  pub next : (new : Held) (e : Option ℕ) (left : ℕ) (r' : Reading) → 32 ≤ length bytes - at → FieldDone (take (at + 30 - at) (drop at bytes)) now e left new → r' ≡ noted_by r e left → Going bytes old new r' (at + 32)
-  unfolding entries_of_fibs broken_fibs first_broken entries_of
-  next new e left r' h d p = subst (λ (q : Reading). Going bytes old new q (at + 32)) (sym p) (go (noted_counts r e left))
+module _ {bytes : List ℕ} {old now : Held} {r : Reading} {k : ℕ} (v : Going bytes old now r k) where
+  pub next : (new : Held) (field : List ℕ) (e : Answer ℕ) (left : ℕ) (r' : Reading) → k < length bytes / 32 → field ≡ take 30 (get_or (fibs_of bytes) k []) → FieldDone field now e left new → r' ≡ noted_by r e left → Going bytes old new r' (k + 1)
+  unfolding entries_of_fibs broken_fibs first_broken entries_of field_of
+  next new field e left r' h is d p = subst (λ (q : Reading). Going bytes old new q (k + 1)) (sym (p ∙ ap (λ (a : Answer ℕ). noted_by r a left) ended)) (go (noted_counts r o left))
     where
+      fib : List ℕ
+      fib = get_or (fibs_of bytes) k []
+
       rest : List (List ℕ)
-      rest = fibs_from (at + 32) bytes
+      rest = drop (k + 1) (fibs_of bytes)
+
+      long : length fib ≡ 32
+      long = fib_long (length bytes / 32) bytes k (omega arith) h
+
+      thirty : length field ≡ 30
+      thirty = ap (λ (xs : List ℕ). length xs) is ∙ length-take-le 30 fib (omega (arith, long))
 
       f : Field
-      f = field_of (take 32 (drop at bytes))
+      f = field_of fib
 
-      ended : e ≡ (field_of (take 32 (drop at bytes))).broken
-      ended = d.broken_is ∙ ap (λ (g : Field). g.broken) (sym (field_is bytes at h))
+      field_is : f ≡ figs_from 0 field
+      field_is = (λ i. field_from (sym thirty i) 0 (sym is i))
 
-      go : ((noted_by r e left).fibs ≡ r.fibs + 1) × ((noted_by r e left).broken ≡ r.broken + counted e) × ((noted_by r e left).left_out ≡ r.left_out + left) → Going bytes old new (noted_by r e left) (at + 32)
-      go k =
+      o : Option ℕ
+      o = f.broken
+
+      ended : e ≡ answered o
+      ended = d.broken_is ∙ ap (λ (g : Field). answered g.broken) (sym field_is)
+
+      left_few : left ≤ 30
+      left_few = omega (arith, d.few, thirty)
+
+      split : drop k (fibs_of bytes) ≡ fib ∷ rest
+      split = drop-cons (fibs_of bytes) k [] (omega (arith, length-fibs_in (length bytes / 32) bytes)) ∙ ap (λ (n : ℕ). fib ∷ drop n (fibs_of bytes)) (sym (add-one k))
+
+      one_on : (n : ℕ) → suc n ≡ n + 1
+      one_on n = omega arith
+
+      go : ((noted_by r (answered o) left).fibs ≡ r.fibs + 1) × ((noted_by r (answered o) left).broken ≡ r.broken + counted o) × ((noted_by r (answered o) left).left_out ≡ r.left_out + left) → Going bytes old new (noted_by r (answered o) left) (k + 1)
+      go c =
           record {
-            inside = omega arith;
-            count = omega (arith, v.count, k.0);
-            broken_few = omega (arith, v.broken_few, k.0, k.1, counted-one e);
-            left_few = omega (arith, v.left_few, k.0, k.2, field-few new e left h d);
+            count = omega (arith, v.count, c.0);
+            broken_few = omega (arith, v.broken_few, c.0, c.1, counted-one o);
+            left_few = omega (arith, v.left_few, c.0, c.2, left_few);
             puts =
-                v.puts ∙ ap (λ (fs : List (List ℕ)). put_all (entries_of_fibs fs) (entered now r.left_out)) (one_more bytes at h)
-                ∙ all_append (entries_of (take 32 (drop at bytes))) (entries_of_fibs (fibs_from (at + 32) bytes)) (entered now r.left_out)
-                ∙ ap (λ (g : Field). put_all (entries_of_fibs (fibs_from (at + 32) bytes)) (put_all (entries_of_all g.figs) (entered now r.left_out))) (field_is bytes at h)
-                ∙ ap (put_all (entries_of_fibs (fibs_from (at + 32) bytes))) (d.puts r.left_out ∙ ap (entered new) (sym k.2));
-            brokens =
-                v.brokens ∙ ap (λ (fs : List (List ℕ)). r.broken + broken_fibs fs) (one_more bytes at h)
-                ∙ ap (λ (o : Option ℕ). r.broken + (counted o + broken_fibs (fibs_from (at + 32) bytes))) (sym ended)
-                ∙ omega (arith, k.1);
+                λ beyond. v.puts beyond ∙ ap (λ (fs : List (List ℕ)). put_all (entries_of_fibs fs) (entered (and_beyond now beyond) r.left_out)) split
+                ∙ all_append (entries_of fib) (entries_of_fibs rest) (entered (and_beyond now beyond) r.left_out)
+                ∙ ap (λ (g : Field). put_all (entries_of_fibs rest) (put_all (entries_of_all g.figs) (entered (and_beyond now beyond) r.left_out))) field_is
+                ∙ ap (put_all (entries_of_fibs rest)) (d.puts beyond r.left_out ∙ ap (entered (and_beyond new beyond)) (sym c.2));
+            brokens = v.brokens ∙ ap (λ (fs : List (List ℕ)). r.broken + broken_fibs fs) split ∙ omega (arith, c.1);
             first =
-                v.first ∙ ap (λ (fs : List (List ℕ)). first_or r (first_broken r.fibs fs)) (one_more bytes at h)
-                ∙ ap (λ (o : Option ℕ). first_or r (or_broken o r.fibs (first_broken (suc r.fibs) (fibs_from (at + 32) bytes)))) (sym ended)
-                ∙ noted_first r e left (first_broken (suc r.fibs) (fibs_from (at + 32) bytes))
-                ∙ ap (λ (n : ℕ). first_or (noted_by r e left) (first_broken n (fibs_from (at + 32) bytes))) (one_on r.fibs ∙ sym k.0);
-            none_yet = noted_none r e left v.none_yet;
+                v.first ∙ ap (λ (fs : List (List ℕ)). first_or r (first_broken r.fibs fs)) split
+                ∙ noted_first r o left (first_broken (suc r.fibs) rest)
+                ∙ ap (λ (n : ℕ). first_or (noted_by r (answered o) left) (first_broken n rest)) (one_on r.fibs ∙ sym c.0);
+            none_yet = noted_none r o left v.none_yet;
           }
-        where
-          one_on : (n : ℕ) → suc n ≡ n + 1
-          one_on n = omega arith
 
-  pub done : length bytes - at < 32 → AllRead bytes old r now
-  unfolding fibs_in entries_of_fibs put_all broken_fibs first_broken reading_of
-  done h =
-      let n : (length bytes - at) / 32 ≡ 0 = omega arith in
-      let no : fibs_from at bytes ≡ [] = ap (λ (k : ℕ). fibs_in k (drop at bytes)) n in
-      let all : read_into bytes old ≡ entered now r.left_out = v.puts ∙ ap (λ (fs : List (List ℕ)). put_all (entries_of_fibs fs) (entered now r.left_out)) no in
-      let fibs_are : r.fibs ≡ length bytes / 32 = omega (arith, v.count, v.inside) in
+  pub done : length bytes / 32 ≤ k → k ≤ length bytes / 32 → AllRead bytes old r now
+  unfolding entries_of_fibs put_all broken_fibs first_broken reading_of
+  done h l =
+      let no : drop k (fibs_of bytes) ≡ [] = drop_of_length-le (fibs_of bytes) (omega (arith, length-fibs_in (length bytes / 32) bytes)) in
+      let fibs_are : r.fibs ≡ length bytes / 32 = omega (arith, v.count) in
       let brokens_are : r.broken ≡ broken_fibs (fibs_of bytes) = (omega arith) ∙ sym (v.brokens ∙ ap (λ (fs : List (List ℕ)). r.broken + broken_fibs fs) no) in
       let first-is : first_in r ≡ first_broken 0 (fibs_of bytes) = sym (v.first ∙ ap (λ (fs : List (List ℕ)). first_or r (first_broken r.fibs fs)) no ∙ last (eqb r.broken 0) refl) in
       record {
-        reading = (λ i. reading (fibs_are i) (brokens_are i) (first-is i).fib (first-is i).offset (sym all i).left_out);
-        numbers = sym (ap (λ (e : Entered). e.numbers) all);
+        reading = λ beyond. (λ i. record { fibs = fibs_are i; broken = brokens_are i; first_fib = (first-is i).fib; first_offset = (first-is i).offset; left_out = (sym (all beyond no) i).left_out });
+        numbers = λ beyond. sym (ap (λ (e : Entered). e.numbers) (all beyond no));
       }
     where
+      all : (beyond : Held) → drop k (fibs_of bytes) ≡ [] → read_into bytes (and_beyond old beyond) ≡ entered (and_beyond now beyond) r.left_out
+      all beyond none_left = v.puts beyond ∙ ap (λ (fs : List (List ℕ)). put_all (entries_of_fibs fs) (entered (and_beyond now beyond) r.left_out)) none_left
+
       last : (b : Bool) → eqb r.broken 0 ≡ b → cond b (record { fib = 0; offset = 0 }) (first_in r) ≡ first_in r
       last true e = let z = v.none_yet (eqb-true r.broken 0 e) in (λ i. record { fib = sym z.0 i; offset = sym z.1 i })
       last false e = refl

@@ -1,16 +1,20 @@
 -- FIG 0/1 entry by entry: what the first bytes of what is left say, and that entering it moves on to the rest.
 -- Assumes nothing.
-use mathlib.Core.Path.{◌≡◌, refl, sym, ap, ◌∙◌}
-use mathlib.Core.List.{List, [], ◌∷◌}
-use Prim.Native.Nat.{ℕ, ◌<◌, ◌≤◌}
+use mathlib.Core.Path.{◌≡◌, refl, sym, ap, ◌∙◌, subst}
+use mathlib.Core.Logic.{◌⊎◌, inl, inr}
+use mathlib.Core.List.{List, [], ◌∷◌, ◌++◌}
+use Prim.Native.Nat.{ℕ, ◌-◌, ◌/◌, ◌<◌, ◌≤◌}
 use native.Mathlib.Omega.{arith}
 use borrow.Author.Tests.{lt-ltb, le-ltb}
-use lib.ListN.{length, get_or, set, drop}
-use lib.Seq.{drop-length}
+use lib.ListN.{length, get_or, set, take, drop, length-drop}
+use lib.Seq.{take_all}
+use Rattle.std.proofs.lemmas.List.{set-append_left}
+use Rattle.fec_protection.specs.declared.Description.{Description}
+use Rattle.fic_directory_places.specs.Promises.{description_of}
 use Rattle.spec_en300401.specs.Organisation.{SubChannel, Entry, sub_channel, sub_ch_id, short_form, long_form, sub_channels}
 use Rattle.fic_directory_places.specs.Places.{sub_word, held}
 use Rattle.fic_directory.specs.Promises.{entered, put, put_all}
-use Rattle.fic_directory.specs.Code.{SubEntered}
+use Rattle.fic_directory.specs.Code.{channel_of, SubsLeft, SubsRead}
 
 abbrev short-at : List ℕ → Entry
 short-at xs = sub_channel (sub_ch_id (get_or xs 0 0)) (short_form (get_or xs 0 0) (get_or xs 1 0) (get_or xs 2 0))
@@ -63,34 +67,63 @@ long (a ∷ b ∷ c ∷ d ∷ xs) h l = rw (le-ltb c 128 l)
 
 module _ (rest before : List ℕ) where
   -- no entry is left
-  nothing : 0 < length rest → sub_channels rest ≡ [] → SubEntered rest before (length rest) before
+  nothing : 0 < length rest → sub_channels rest ≡ [] → SubsLeft rest [] before before
   unfolding sub_channels
   nothing h e =
-      record { some_done = h; within = omega arith; puts = λ services n. ap (λ (es : List Entry). put_all es (entered (held before services) n)) (e ∙ sym (ap sub_channels (drop-length rest))) }
+      record { shorter = h; puts = λ beyond services n. ap (λ (es : List Entry). put_all es (entered (held (before ++ beyond) services) n)) e }
 
-  pub done_cut : 0 < length rest → length rest < 3 → SubEntered rest before (length rest) before
-  done_cut p h = nothing p (cut rest h)
+  pub left_none : 0 < length rest → (length rest < 3) ⊎ ((length rest < 4) × (128 ≤ get_or rest 2 0)) → SubsLeft rest [] before before
+  left_none p (inl h) = nothing p (cut rest h)
+  left_none p (inr h) = nothing p (long_cut rest h.0 h.1)
 
-  pub done_long_cut : 3 ≤ length rest → length rest < 4 → 128 ≤ get_or rest 2 0 → SubEntered rest before (length rest) before
-  done_long_cut p h l = nothing (omega arith) (long_cut rest h l)
+  -- what is behind n bytes, as a pattern has it
+  module _ (n : ℕ) (h : n ≤ length rest) where
+    behind : take (length rest - n) (drop n rest) ≡ drop n rest
+    behind = take_all (length rest - n) (drop n rest) (simp length-drop (omega arith))
 
-  pub done_switched : 3 ≤ length rest → 64 ≤ get_or rest 2 0 → get_or rest 2 0 < 128 → SubEntered rest before 3 before
-  done_switched h k l =
-      record { some_done = omega arith; within = h; puts = λ services n. ap (λ (es : List Entry). put_all es (entered (held before services) n)) (switched rest h k l) }
+    from_behind : (after : List ℕ) → 0 < n → SubsLeft rest (drop n rest) before after → SubsLeft rest (take (length rest - n) (drop n rest)) before after
+    from_behind after p s = subst (λ (left : List ℕ). SubsLeft rest left before after) (sym behind) s
 
-  one : (r id w : ℕ) (c : SubChannel) → 0 < r → r ≤ length rest → sub_channels rest ≡ sub_channel (sub_ch_id (get_or rest 0 0)) c ∷ sub_channels (drop r rest) → id ≡ sub_ch_id (get_or rest 0 0) → w ≡ sub_word c → SubEntered rest before r (set before id w)
-  unfolding put put_all
-  one r id w c h l e f g =
-      record {
-        some_done = h;
-        within = l;
-        puts =
-            λ services n. ap (λ (es : List Entry). put_all es (entered (held before services) n)) e
-            ∙ (λ i. put_all (sub_channels (drop r rest)) (entered (held (set before (sym f i) (sym g i)) services) n));
-      }
+    shorter : 0 < n → length (drop n rest) < length rest
+    shorter p = omega (arith, length-drop n rest)
 
-  pub done_short : (id w : ℕ) → 3 ≤ length rest → get_or rest 2 0 < 64 → id ≡ sub_ch_id (get_or rest 0 0) → w ≡ sub_word (short_form (get_or rest 0 0) (get_or rest 1 0) (get_or rest 2 0)) → SubEntered rest before 3 (set before id w)
-  done_short id w h l f g = one 3 id w _ (omega arith) h (short rest h l) f g
+    one : (id w : ℕ) (c : SubChannel) → 0 < n → sub_channels rest ≡ sub_channel (sub_ch_id (get_or rest 0 0)) c ∷ sub_channels (drop n rest) → id ≡ sub_ch_id (get_or rest 0 0) → w ≡ sub_word c → id < length before
+        → SubsLeft rest (take (length rest - n) (drop n rest)) before (set before id w)
+    unfolding put put_all
+    one id w c p e f g l =
+        from_behind (set before id w) p
+        (record {
+          shorter = shorter p;
+          puts =
+              λ beyond services m. ap (λ (es : List Entry). put_all es (entered (held (before ++ beyond) services) m)) e
+              ∙ (λ i. put_all (sub_channels (drop n rest)) (entered (held (set (before ++ beyond) (sym f i) (sym g i)) services) m))
+              ∙ ap (λ (xs : List ℕ). put_all (sub_channels (drop n rest)) (entered (held xs services) m)) (set-append_left before beyond id w l);
+        })
 
-  pub done_long : (id w : ℕ) → 4 ≤ length rest → 128 ≤ get_or rest 2 0 → id ≡ sub_ch_id (get_or rest 0 0) → w ≡ sub_word (long_form (get_or rest 0 0) (get_or rest 1 0) (get_or rest 2 0) (get_or rest 3 0)) → SubEntered rest before 4 (set before id w)
-  done_long id w h l f g = one 4 id w _ (omega arith) h (long rest h l) f g
+  pub left_switched : 3 ≤ length rest → 64 ≤ get_or rest 2 0 → get_or rest 2 0 < 128 → SubsLeft rest (take (length rest - 3) (drop 3 rest)) before before
+  left_switched h k l =
+      from_behind 3 h before (omega arith)
+      (record { shorter = shorter 3 h (omega arith); puts = λ beyond services n. ap (λ (es : List Entry). put_all es (entered (held (before ++ beyond) services) n)) (switched rest h k l) })
+
+  module _ (id w : ℕ) (d : Description) (places : length before ≡ 64) (byte : get_or rest 0 0 < 256) (f : id ≡ get_or rest 0 0 / 4) (g : w ≡ sub_word (channel_of d)) where
+    pub left_short : 3 ≤ length rest → get_or rest 2 0 < 64 → d ≡ description_of (short_form (get_or rest 0 0) (get_or rest 1 0) (get_or rest 2 0)) → SubsLeft rest (take (length rest - 3) (drop 3 rest)) before (set before id w)
+    left_short h l e = one 3 h id w (short_form (get_or rest 0 0) (get_or rest 1 0) (get_or rest 2 0)) (omega arith) (short rest h l) f (g ∙ ap (λ (x : Description). sub_word (channel_of x)) e) (omega arith)
+
+    pub left_long : 4 ≤ length rest → 128 ≤ get_or rest 2 0 → d ≡ description_of (long_form (get_or rest 0 0) (get_or rest 1 0) (get_or rest 2 0) (get_or rest 3 0)) → SubsLeft rest (take (length rest - 4) (drop 4 rest)) before (set before id w)
+    left_long h l e = one 4 h id w (long_form (get_or rest 0 0) (get_or rest 1 0) (get_or rest 2 0) (get_or rest 3 0)) (omega arith) (long rest h l) f (g ∙ ap (λ (x : Description). sub_word (channel_of x)) e) (omega arith)
+
+-- an option is of three bits
+pub short_option : (d : Description) (a b c : ℕ) → d ≡ description_of (short_form a b c) → d.eep_option < 16
+unfolding short_form
+short_option d a b c e = omega (arith, ap (λ (x : Description). x.eep_option) e)
+
+pub long_option : (e : Description) (a b c d : ℕ) → e ≡ description_of (long_form a b c d) → e.eep_option < 16
+unfolding long_form
+long_option e a b c d f = omega (arith, ap (λ (x : Description). x.eep_option) f)
+
+-- past the last byte no entry is left
+pub read_none : (body before now : List ℕ) (rest : List ℕ) → length rest ≡ 0 → ((beyond services : List ℕ) (n : ℕ) → put_all (sub_channels body) (entered (held (before ++ beyond) services) n) ≡ put_all (sub_channels rest) (entered (held (now ++ beyond) services) n))
+    → SubsRead body before now
+unfolding sub_channels put_all
+read_none body before now [] h f = record { puts = f }
+read_none body before now (a ∷ rest) h f = absurd (omega arith)

@@ -1,16 +1,15 @@
 -- Document 02, order 1: what reading FIBs into a directory answers, and what every number of the caller's holds after it.
-use Rattle.std.specs.Prelude.{◌≡◌, List, [], ◌∷◌, ◌++◌, ℕ, ◌+◌, ◌*◌, ◌/◌, length, set}
+use Rattle.std.specs.Prelude.{◌≡◌, List, [], ◌∷◌, ◌++◌, ℕ, ◌+◌, ◌*◌, ◌/◌, length, set, Result}
 use Rattle.std.proofs.Math.Option.{Option, none, some}
 use Rattle.std.proofs.lemmas.List.Edits.{sets}
-use Rattle.refusal.specs.Outcome.{Outcome, gives, refuses, outcome, unless_refused}
+use Rattle.refusal.specs.Outcome.{told, outcome, unless_refused}
+use Rattle.refusal.specs.declared.Refusal.{Refusal}
 use Rattle.spec_en300401.specs.Fib.{fib_bytes}
 use Rattle.spec_en300401.specs.Organisation.{Service, Entry, sub_channel, service, entries_of}
 use Rattle.spec_en300401.specs.Directory.{place_for, fibs_in, broken_fibs, first_broken}
 use Rattle.fic_directory_places.specs.Places.{sub_word, service_words, services_of, Held, held}
 use Rattle.fic_directory_places.specs.Promises.{directory_refusal}
 use Rattle.fic_directory.specs.declared.Reading.{Reading}
-use Rattle.fic_directory.specs.declared.ReadAnswer.{ReadAnswer}
-use Rattle.fic_directory.specs.declared.ReadAnswer.TheVariants.{Done, «Refused» as read-refused}
 
 -- the numbers, and how many entries of services were left out on the way to them
 pub record Entered : Type 0 where
@@ -56,11 +55,7 @@ reading_of bytes h =
       left_out = (read_into bytes h).left_out;
     }
 
-abbrev pub read_as : ReadAnswer → Outcome Reading
-read_as (Done r) = gives r
-read_as (read-refused r) = refuses r.number
-
 -- refused by 12 before any byte is read, and all as it was; or the FIBs read, and every number by the standard's definitions
-pub record ReadPromise (bytes : List ℕ) (before : Held) (r : ReadAnswer) (after : Held) : Type 0 where
-  pub answer : read_as r ≡ outcome (directory_refusal (length before.subs) (length before.services)) (reading_of bytes before)
+pub record ReadPromise (bytes : List ℕ) (before : Held) (r : Result Reading Refusal) (after : Held) : Type 0 where
+  pub answer : told r ≡ outcome (directory_refusal (length before.subs) (length before.services)) (reading_of bytes before)
   pub numbers : after ≡ unless_refused (directory_refusal (length before.subs) (length before.services)) (read_into bytes before).numbers before

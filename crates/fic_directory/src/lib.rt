@@ -1,18 +1,20 @@
 // The station list (document 02, order 1): FIBs, as the FIC handler writes them, read into a directory that the caller holds in numbers.
 #![tactic(auto)]
 
-ghost use Rattle.std.specs.Prelude.{◌≡◌, ◌+◌, ◌*◌, ◌/◌, ◌%◌, ◌^◌, ◌<◌, ◌≤◌, eqb, length, get_or};
-ghost use Rattle.spec_en300401.specs.Fib.{length_in};
-ghost use Rattle.spec_en300401.specs.Organisation.{units_of, rate_of, start_in, short_form, long_form, pairs_of, sid_bytes, service_in};
-ghost use Rattle.fic_directory_places.specs.Places.{sub_word, component_word, held};
-ghost use Rattle.fic_directory.specs.Code.{IsRows, row_word, SubEntered, SubsRead, entry_length, Whole, KeyIs, marked, OwnPlace, FreePlace, PlaceFor, Writable, Written, ServicePut, ServiceEntered, ServicesRead, FigRead, ended_as, FieldDone, Few, noted_by, no_reading, AllRead};
+ghost use Rattle.std.specs.Prelude.{◌≡◌, ◌+◌, ◌*◌, ◌%◌, ◌^◌, ◌<◌, MatchOption, length};
+ghost use Rattle.spec_en300401.specs.Organisation.{rate_of, short_form, long_form, sid_bytes, service_in};
+ghost use Rattle.spec_en300401.specs.Directory.{is_free_place, first_place};
+ghost use Rattle.fic_directory_places.specs.Places.{sub_word, held, services_of};
+ghost use Rattle.fic_directory_places.specs.Promises.{answered, description_of};
+ghost use Rattle.fic_directory.specs.Code.{channel_of, SubsLeft, SubsRead, NoneLeft, FirstOf, IsEntry, KeyIs, is_key, pair_at, four_of, LowestPlace, PlaceFor, ServicePut, ServicesRead, FigRead, FieldDone, Few, noted_by, AllRead};
 ghost use Rattle.fic_directory.specs.Promises.{ReadPromise};
 
+use fec_protection::Description;
 use refusal::Refusal;
 
 // How many FIBs were read; how many ended at a FIG whose length passes the end, and of the first of these its number and the FIG's offset;
 // how many entries of services found no place.
-#[derive(Clone, Copy)]
+#[derive(Clone, Copy, Debug, Default, PartialEq, Eq, Hash)]
 pub struct Reading {
     pub fibs: usize,
     pub broken: usize,
@@ -21,511 +23,360 @@ pub struct Reading {
     pub left_out: usize,
 }
 
+// What reading a FIB's data field came to: the offset of the header of a FIG that passes its end, and how many entries of services were left out.
 #[derive(Clone, Copy)]
-pub enum ReadAnswer {
-    Done(Reading),
-    Refused(Refusal),
+struct FieldRead {
+    broken: Option<usize>,
+    left_out: usize,
+}
+
+impl Reading {
+    // One FIB more.
+    fn note(&mut self, one: FieldRead)
+        requires { Few self.old one.left_out }
+        ensures { self.new ≡ noted_by self.old one.broken one.left_out }
+    {
+        if let Some(offset) = one.broken {
+            if self.broken == 0 {
+                self.first_fib = self.fibs;
+                self.first_offset = offset;
+            }
+            self.broken += 1;
+        }
+        self.fibs += 1;
+        self.left_out += one.left_out;
+    }
 }
 
 // kbit/s, protection level and units of the short form's 64 rows.
-const UEP_ROWS: [u16; 192] = [
-    32, 5, 16, 32, 4, 21, 32, 3, 24, 32, 2, 29, 32, 1, 35, 48, 5, 24, 48, 4, 29, 48, 3, 35, 48, 2,
-    42, 48, 1, 52, 56, 5, 29, 56, 4, 35, 56, 3, 42, 56, 2, 52, 64, 5, 32, 64, 4, 42, 64, 3, 48, 64,
-    2, 58, 64, 1, 70, 80, 5, 40, 80, 4, 52, 80, 3, 58, 80, 2, 70, 80, 1, 84, 96, 5, 48, 96, 4, 58,
-    96, 3, 70, 96, 2, 84, 96, 1, 104, 112, 5, 58, 112, 4, 70, 112, 3, 84, 112, 2, 104, 128, 5, 64,
-    128, 4, 84, 128, 3, 96, 128, 2, 116, 128, 1, 140, 160, 5, 80, 160, 4, 104, 160, 3, 116, 160, 2,
-    140, 160, 1, 168, 192, 5, 96, 192, 4, 116, 192, 3, 140, 192, 2, 168, 192, 1, 208, 224, 5, 116,
-    224, 4, 140, 224, 3, 168, 224, 2, 208, 224, 1, 232, 256, 5, 128, 256, 4, 168, 256, 3, 192, 256,
-    2, 232, 256, 1, 280, 320, 5, 160, 320, 4, 208, 320, 2, 280, 384, 5, 192, 384, 3, 280, 384, 1,
-    416,
+const UEP_ROWS: [(u16, u8, u16); 64] = [
+    (32, 5, 16),
+    (32, 4, 21),
+    (32, 3, 24),
+    (32, 2, 29),
+    (32, 1, 35),
+    (48, 5, 24),
+    (48, 4, 29),
+    (48, 3, 35),
+    (48, 2, 42),
+    (48, 1, 52),
+    (56, 5, 29),
+    (56, 4, 35),
+    (56, 3, 42),
+    (56, 2, 52),
+    (64, 5, 32),
+    (64, 4, 42),
+    (64, 3, 48),
+    (64, 2, 58),
+    (64, 1, 70),
+    (80, 5, 40),
+    (80, 4, 52),
+    (80, 3, 58),
+    (80, 2, 70),
+    (80, 1, 84),
+    (96, 5, 48),
+    (96, 4, 58),
+    (96, 3, 70),
+    (96, 2, 84),
+    (96, 1, 104),
+    (112, 5, 58),
+    (112, 4, 70),
+    (112, 3, 84),
+    (112, 2, 104),
+    (128, 5, 64),
+    (128, 4, 84),
+    (128, 3, 96),
+    (128, 2, 116),
+    (128, 1, 140),
+    (160, 5, 80),
+    (160, 4, 104),
+    (160, 3, 116),
+    (160, 2, 140),
+    (160, 1, 168),
+    (192, 5, 96),
+    (192, 4, 116),
+    (192, 3, 140),
+    (192, 2, 168),
+    (192, 1, 208),
+    (224, 5, 116),
+    (224, 4, 140),
+    (224, 3, 168),
+    (224, 2, 208),
+    (224, 1, 232),
+    (256, 5, 128),
+    (256, 4, 168),
+    (256, 3, 192),
+    (256, 2, 232),
+    (256, 1, 280),
+    (320, 5, 160),
+    (320, 4, 208),
+    (320, 2, 280),
+    (384, 5, 192),
+    (384, 3, 280),
+    (384, 1, 416),
 ];
 
-fn word(start: u16, size: u16, rate: u16, level: u16, flags: u64) -> u64
-    requires { (level < 512) × (flags < 2 ^ 62) }
-    ensures { result ≡ start + size * 2 ^ 16 + rate * 2 ^ 32 + level * 2 ^ 48 + flags }
+// A sub-channel's number.
+#[tactic(auto, unfolding(fic_directory_places::specs::Places::sub_word))]
+fn packed(d: Description) -> u64
+    requires { d.eep_option < 16 }
+    ensures { result ≡ sub_word (channel_of d) }
 {
-    (start as u64)
-        + (size as u64) * 65536
-        + (rate as u64) * 4294967296
-        + (level as u64) * 281474976710656
-        + flags
+    u64::from(d.start_addr)
+        + (u64::from(d.sub_size) << 16)
+        + (u64::from(d.bitrate) << 32)
+        + (u64::from(d.protection_level) << 48)
+        + (u64::from(d.eep_option) << 56)
+        + (u64::from(d.is_eep) << 60)
+        + (1 << 61)
 }
 
 // Ten bits of two bytes.
 fn ten_bits(a: u8, b: u8) -> u16
-    ensures { (result ≡ start_in a b) × (result < 1024) }
+    ensures { result ≡ a % 4 * 256 + b }
 {
-    (a % 4) as u16 * 256 + b as u16
+    u16::from_be_bytes([a % 4, b])
 }
 
-fn row_word(rows: &[u16; 192], row: usize, start: u16) -> u64
-    requires { (row < 64) × IsRows rows.now }
-    ensures { result ≡ row_word row start }
-{
-    let at = 3 * row;
-    word(
-        start,
-        rows[at + 2],
-        rows[at],
-        rows[at + 1],
-        2305843009213693952,
-    )
-}
-
-// The number of a short form, whose third byte is the row.
-fn short_word(a: u8, b: u8, c: u8) -> u64
+// The short form's third byte is the row.
+fn short_form(a: u8, b: u8, c: u8) -> Description
     requires { c < 64 }
-    ensures { result ≡ sub_word (short_form a b c) }
+    ensures { result ≡ description_of (short_form a b c) }
 {
-    let rows = UEP_ROWS;
-    row_word(&rows, c as usize, ten_bits(a, b))
-}
-
-// Units for each 8 kbit/s of set A, or 32 kbit/s of set B.
-fn units_of(option: u8, level: u8) -> u16
-    requires { (option < 2) × (level < 4) }
-    ensures { (result ≡ units_of option level) × (0 < result) }
-{
-    if option == 0 {
-        match level {
-            0 => 12,
-            1 => 8,
-            2 => 6,
-            _ => 4,
-        }
-    } else {
-        match level {
-            0 => 27,
-            1 => 21,
-            2 => 18,
-            _ => 15,
-        }
+    let (bitrate, protection_level, sub_size) = UEP_ROWS[usize::from(c)];
+    Description {
+        start_addr: ten_bits(a, b),
+        sub_size,
+        bitrate,
+        protection_level,
+        eep_option: 0,
+        is_eep: false,
     }
 }
 
+// The bit rate of a size: units for each 8 kbit/s of set A, or 32 kbit/s of set B, by level.
+#[tactic(auto, unfolding(spec_en300401::specs::Organisation::rate_of))]
 fn rate_of(option: u8, level: u8, size: u16) -> u16
     requires { (level < 4) × (size < 1024) }
     ensures { result ≡ rate_of option level size }
 {
-    if option > 1 {
-        return 0;
+    match option {
+        0 => 8 * size / [12, 8, 6, 4][usize::from(level)],
+        1 => 32 * size / [27, 21, 18, 15][usize::from(level)],
+        _ => 0,
     }
-    let units = units_of(option, level);
-    if option == 0 {
-        return 8 * size / units;
-    }
-    32 * size / units
 }
 
-// The number of a long form.
-fn long_word(a: u8, b: u8, c: u8, d: u8) -> u64
-    ensures { result ≡ sub_word (long_form a b c d) }
+#[tactic(auto, unfolding(spec_en300401::specs::Organisation::long_form))]
+fn long_form(a: u8, b: u8, c: u8, d: u8) -> Description
+    ensures { result ≡ description_of (long_form a b c d) }
 {
     let option = c / 16 % 8;
     let level = c / 4 % 4;
     let size = ten_bits(c, d);
-    let rate = rate_of(option, level, size);
-    word(
-        ten_bits(a, b),
-        size,
-        rate,
-        level as u16,
-        (option as u64) * 72057594037927936 + 3458764513820540928,
-    )
+    Description {
+        start_addr: ten_bits(a, b),
+        sub_size: size,
+        bitrate: rate_of(option, level, size),
+        protection_level: level,
+        eep_option: option,
+        is_eep: true,
+    }
 }
 
-fn sub_place(a: u8) -> usize
-    ensures { (result ≡ a / 4) × (result < 64) }
+// Enters the first entry of what is left of FIG 0/1, and hands back what is behind it; nothing where no whole entry is left.
+fn enter_sub<'a>(rest: &'a [u8], subs: &mut [u64; 64]) -> &'a [u8]
+    requires { 0 < length rest.now }
+    ensures { SubsLeft rest.now result.now subs.old subs.new }
 {
-    (a / 4) as usize
+    match rest {
+        [a, b, c, behind @ ..] if *c < 64 => {
+            subs[usize::from(a / 4)] = packed(short_form(*a, *b, *c));
+            behind
+        }
+        [_, _, c, behind @ ..] if *c < 128 => behind,
+        [a, b, c, d, behind @ ..] => {
+            subs[usize::from(a / 4)] = packed(long_form(*a, *b, *c, *d));
+            behind
+        }
+        _ => &[],
+    }
 }
 
-// The first entry of what is left of FIG 0/1: how many bytes it takes, all that are left where they are no whole entry.
-fn enter_sub(rest: &[u8], subs: &mut [u64]) -> usize
-    requires { (0 < length rest.now) × (64 ≤ length subs.old) }
-    ensures { SubEntered rest.now subs.old result subs.new }
-{
-    let n = rest.len();
-    if n < 3 {
-        return n;
-    }
-    let a = rest[0];
-    let b = rest[1];
-    let c = rest[2];
-    let id = sub_place(a);
-    if c < 64 {
-        subs[id] = short_word(a, b, c);
-        return 3;
-    }
-    if c < 128 {
-        return 3;
-    }
-    if n < 4 {
-        return n;
-    }
-    subs[id] = long_word(a, b, c, rest[3]);
-    4
-}
-
-fn read_subs(body: &[u8], subs: &mut [u64])
-    requires { 64 ≤ length subs.old }
+fn read_subs(body: &[u8], subs: &mut [u64; 64])
     ensures { SubsRead body.now subs.old subs.new }
 {
-    let mut at: usize = 0;
-    while at < body.len() {
-        at += enter_sub(&body[at..], &mut *subs);
+    let mut rest = body;
+    while !rest.is_empty() {
+        rest = enter_sub(rest, subs);
     }
-}
-
-// Two bytes as a number.
-fn pair(a: u8, b: u8) -> u64
-    ensures { (result ≡ 256 * a + b) × (result < 65536) }
-{
-    (a as u64) * 256 + b as u64
 }
 
 fn sid_bytes(wide: bool) -> usize
-    ensures { (result ≡ sid_bytes wide) × (1 < result) × (result < 5) }
+    ensures { result ≡ sid_bytes wide }
 {
     if wide { 4 } else { 2 }
 }
 
-fn low_four(x: u8) -> usize
-    ensures { (result ≡ x % 16) × (result < 16) }
-{
-    (x % 16) as usize
-}
-
-// How many bytes the first entry of what is left of FIG 0/2 takes, 0 where there is no whole one.
-fn entry_length(rest: &[u8], wide: bool) -> usize
-    ensures { result ≡ entry_length wide rest.now }
+// The first entry of what is left of FIG 0/2 and what is behind it; none where no whole entry is left.
+fn first_entry(rest: &[u8], wide: bool) -> Option<(&[u8], &[u8])>
+    ensures { MatchOption result (NoneLeft wide rest.now) (λ p. FirstOf wide rest.now p.0.now p.1.now) }
 {
     let head = sid_bytes(wide);
-    if rest.len() <= head {
-        return 0;
-    }
-    let n = head + 1 + 2 * low_four(rest[head]);
-    if rest.len() < n {
-        return 0;
-    }
-    n
+    let components = usize::from(rest.get(head)? % 16);
+    rest.split_at_checked(head + 1 + 2 * components)
 }
 
 // A service's identifier and its width, as they stand in its first number.
-fn service_key(rest: &[u8], wide: bool) -> u64
-    requires { Whole wide rest.now }
-    ensures { KeyIs (service_in wide rest.now) result }
+fn service_key(entry: &[u8], wide: bool) -> u64
+    requires { IsEntry wide entry.now }
+    ensures { KeyIs (service_in wide entry.now) result }
 {
-    let high = pair(rest[0], rest[1]);
     if wide {
-        return 4294967296 + high * 65536 + pair(rest[2], rest[3]);
+        (1 << 32) + u64::from(u32::from_be_bytes([entry[0], entry[1], entry[2], entry[3]]))
+    } else {
+        u64::from(u16::from_be_bytes([entry[0], entry[1]]))
     }
-    high
 }
 
-fn is_key(number: u64, wanted: u64) -> bool
-    ensures { result ≡ eqb (marked number) wanted }
+// Whether a place's first number is marked, and the service's of a key.
+fn is_key(number: u64, key: u64) -> bool
+    ensures { result ≡ is_key key number }
 {
-    number % 8589934592 + number / 281474976710656 % 2 * 281474976710656 == wanted
+    (number >> 48) % 2 == 1 && number % (1 << 33) == key
 }
 
-// The lowest place of a service, 64 where it has none.
-fn own_place(wanted: u64, services: &[u64]) -> usize
-    requires { 256 ≤ length services.now }
-    ensures { OwnPlace wanted services.now result }
+// The lowest place whose first number passes a test.
+fn lowest_place<F: Fn(u64) -> bool>(services: &[u64; 256], test: F) -> Option<usize>
+    requires { F.IsAlwaysCallable test }
+    ensures { LowestPlace (F.post test) services.now result }
 {
-    let mut p: usize = 0;
-    while p < 64 {
-        if is_key(services[4 * p], wanted) {
-            return p;
-        }
-        p += 1;
-    }
-    64
+    (0..64).find(|place| test(services[4 * *place]))
 }
 
-fn is_free(number: u64) -> bool
-    ensures { result ≡ eqb (number / 2 ^ 48 % 2) 0 }
+fn free_place(services: &[u64; 256]) -> Option<usize>
+    ensures { result ≡ answered (first_place is_free_place 0 (services_of services.now)) }
 {
-    number / 281474976710656 % 2 == 0
+    lowest_place(services, |number| (number >> 48) % 2 == 0)
 }
 
-// The lowest place that is not marked, 64 where there is none.
-fn free_place(services: &[u64]) -> usize
-    requires { 256 ≤ length services.now }
-    ensures { FreePlace services.now result }
-{
-    let mut p: usize = 0;
-    while p < 64 {
-        if is_free(services[4 * p]) {
-            return p;
-        }
-        p += 1;
-    }
-    64
-}
-
-// Where a service goes, 64 where there is no place for it.
-fn place_for(key: u64, services: &[u64]) -> usize
-    requires { (256 ≤ length services.now) × (key < 2 ^ 33) }
+// Where a service goes: to its own place, or else to the lowest one that is not marked.
+fn place_for(key: u64, services: &[u64; 256]) -> Option<usize>
     ensures { PlaceFor key services.now result }
 {
-    let own = own_place(key + 281474976710656, services);
-    if own < 64 {
-        return own;
-    }
-    free_place(services)
+    lowest_place(services, |number| is_key(number, key)).or_else(|| free_place(services))
 }
 
-fn component(words: &[u8], k: usize) -> u64
-    requires { k < 12 }
-    ensures { (result ≡ get_or (pairs_of words.now) k 0) × (result < 65536) }
+// Component k of pairs of bytes, 0 where there is none.
+fn component(pairs: &[[u8; 2]], k: usize) -> u16
+    ensures { result ≡ pair_at pairs.now k }
 {
-    let at = 2 * k;
-    if words.len() <= at + 1 {
-        return 0;
-    }
-    pair(words[at], words[at + 1])
+    pairs.get(k).map_or(0, |pair| u16::from_be_bytes(*pair))
 }
 
 // Four components in a number.
-fn four(words: &[u8], j: usize) -> u64
+fn four(pairs: &[[u8; 2]], j: usize) -> u64
     requires { j < 3 }
-    ensures { result ≡ component_word (pairs_of words.now) j }
+    ensures { result ≡ four_of pairs.now j }
 {
     let k = 4 * j;
-    component(words, k)
-        + component(words, k + 1) * 65536
-        + component(words, k + 2) * 4294967296
-        + component(words, k + 3) * 281474976710656
+    u64::from(component(pairs, k))
+        + (u64::from(component(pairs, k + 1)) << 16)
+        + (u64::from(component(pairs, k + 2)) << 32)
+        + (u64::from(component(pairs, k + 3)) << 48)
 }
 
-fn write_service(rest: &[u8], wide: bool, key: u64, place: usize, services: &mut [u64])
-    requires { Writable wide rest.now key place services.old }
-    ensures { Written wide rest.now place services.old services.new }
+// Enters a service; says whether it is left out, for want of a place.
+fn enter_service(entry: &[u8], wide: bool, services: &mut [u64; 256]) -> bool
+    requires { IsEntry wide entry.now }
+    ensures { ServicePut wide entry.now services.old result services.new }
 {
-    let head = sid_bytes(wide);
-    let n = low_four(rest[head]);
-    let from = head + 1;
-    let to = from + 2 * n;
-    let words = &rest[from..to];
+    let key = service_key(entry, wide);
+    let Some(place) = place_for(key, services) else {
+        return true;
+    };
+    let (pairs, _) = entry[sid_bytes(wide) + 1..].as_chunks::<2>();
+    let head = key + ((pairs.len() as u64) << 40) + (1 << 48);
     let at = 4 * place;
-    services[at] = key + (n as u64) * 1099511627776 + 281474976710656;
-    services[at + 1] = four(words, 0);
-    services[at + 2] = four(words, 1);
-    services[at + 3] = four(words, 2);
+    services[at..at + 4].copy_from_slice(&[head, four(pairs, 0), four(pairs, 1), four(pairs, 2)]);
+    false
 }
 
-// Enters a service: 1 where it is left out.
-fn put_service(rest: &[u8], wide: bool, services: &mut [u64]) -> usize
-    requires { (Whole wide rest.now) × (256 ≤ length services.old) }
-    ensures { ServicePut wide rest.now services.old result services.new }
-{
-    let key = service_key(rest, wide);
-    let place = place_for(key, services);
-    if 64 <= place {
-        return 1;
-    }
-    write_service(rest, wide, key, place, services);
-    0
-}
-
-// What entering a service came to: bytes of its entry, and 1 where it was left out.
-#[derive(Clone, Copy)]
-struct Taken {
-    bytes: usize,
-    left_out: usize,
-}
-
-// The first entry of what is left of FIG 0/2; all bytes are taken where they are no whole entry.
-fn enter_service(rest: &[u8], wide: bool, services: &mut [u64]) -> Taken
-    requires { (0 < length rest.now) × (256 ≤ length services.old) }
-    ensures { ServiceEntered wide rest.now services.old result.bytes result.left_out services.new }
-{
-    let n = entry_length(rest, wide);
-    if n == 0 {
-        return Taken {
-            bytes: rest.len(),
-            left_out: 0,
-        };
-    }
-    let left = put_service(rest, wide, services);
-    Taken {
-        bytes: n,
-        left_out: left,
-    }
-}
-
-fn read_services(body: &[u8], wide: bool, services: &mut [u64]) -> usize
-    requires { 256 ≤ length services.old }
+// How many entries were left out.
+fn read_services(body: &[u8], wide: bool, services: &mut [u64; 256]) -> usize
     ensures { ServicesRead wide body.now services.old result services.new }
 {
-    let mut left_out: usize = 0;
-    let mut at: usize = 0;
-    while at < body.len() {
-        let one = enter_service(&body[at..], wide, &mut *services);
-        left_out += one.left_out;
-        at += one.bytes;
+    let mut left_out = 0;
+    let mut rest = body;
+    while let Some((entry, behind)) = first_entry(rest, wide) {
+        left_out += usize::from(enter_service(entry, wide, services));
+        rest = behind;
     }
     left_out
 }
 
 // One FIG: how many entries of services were left out.
-fn read_fig(kind: u8, body: &[u8], subs: &mut [u64], services: &mut [u64]) -> usize
-    requires { (64 ≤ length subs.old) × (256 ≤ length services.old) }
+fn read_fig(kind: u8, body: &[u8], subs: &mut [u64; 64], services: &mut [u64; 256]) -> usize
     ensures { FigRead kind body.now (held subs.old services.old) result (held subs.new services.new) }
 {
-    if kind != 0 {
-        return 0;
+    match body {
+        [flags, entries @ ..] if kind == 0 && *flags < 64 => match flags % 32 {
+            1 => {
+                read_subs(entries, subs);
+                0
+            }
+            2 => read_services(entries, *flags >= 32, services),
+            _ => 0,
+        },
+        _ => 0,
     }
-    if body.len() == 0 {
-        return 0;
-    }
-    let t = body[0];
-    if t >= 64 {
-        return 0;
-    }
-    let extension = t % 32;
-    if extension == 1 {
-        read_subs(&body[1..], &mut *subs);
-        return 0;
-    }
-    if extension == 2 {
-        return read_services(&body[1..], t / 32 == 1, &mut *services);
-    }
-    0
-}
-
-// How a FIB's data field ended: in order, or at a FIG that passes its end, by the offset of that FIG's header.
-#[derive(Clone, Copy)]
-enum Ended {
-    InOrder,
-    Broken(usize),
-}
-
-#[derive(Clone, Copy)]
-struct FieldRead {
-    ended: Ended,
-    left_out: usize,
-}
-
-fn length_in(header: u8) -> usize
-    ensures { (result ≡ length_in header) × (result < 32) }
-{
-    (header % 32) as usize
 }
 
 // The FIGs of a FIB's data field.
-fn read_field(field: &[u8], subs: &mut [u64], services: &mut [u64]) -> FieldRead
-    requires { (64 ≤ length subs.old) × (256 ≤ length services.old) }
-    ensures { FieldDone
-        field.now
-        (held subs.old services.old)
-        (ended_as result.ended)
-        result.left_out
-        (held subs.new services.new) }
+fn read_field(field: &[u8], subs: &mut [u64; 64], services: &mut [u64; 256]) -> FieldRead
+    ensures { FieldDone field.now (held subs.old services.old) result.broken result.left_out (held subs.new services.new) }
 {
-    let mut left_out: usize = 0;
-    let mut at: usize = 0;
-    while at < field.len() {
-        let header = field[at];
-        if header == 255 {
-            return FieldRead {
-                ended: Ended::InOrder,
-                left_out: left_out,
-            };
+    let mut left_out = 0;
+    let mut rest = field;
+    while let [header, behind @ ..] = rest {
+        if *header == 255 {
+            break;
         }
-        let from = at + 1;
-        let n = length_in(header);
-        if field.len() - from < n {
+        let Some((body, others)) = behind.split_at_checked(usize::from(header % 32)) else {
             return FieldRead {
-                ended: Ended::Broken(at),
-                left_out: left_out,
+                broken: Some(field.len() - rest.len()),
+                left_out,
             };
-        }
-        let to = from + n;
-        left_out += read_fig(header / 32, &field[from..to], &mut *subs, &mut *services);
-        at = to;
+        };
+        left_out += read_fig(header / 32, body, subs, services);
+        rest = others;
     }
     FieldRead {
-        ended: Ended::InOrder,
-        left_out: left_out,
-    }
-}
-
-// What was read so far with one FIB more.
-fn noted(r: Reading, one: FieldRead) -> Reading
-    requires { Few r one.left_out }
-    ensures { result ≡ noted_by r (ended_as one.ended) one.left_out }
-{
-    let ended = one.ended;
-    match ended {
-        Ended::InOrder => Reading {
-            fibs: r.fibs + 1,
-            broken: r.broken,
-            first_fib: r.first_fib,
-            first_offset: r.first_offset,
-            left_out: r.left_out + one.left_out,
-        },
-        Ended::Broken(offset) => {
-            if r.broken == 0 {
-                Reading {
-                    fibs: r.fibs + 1,
-                    broken: 1,
-                    first_fib: r.fibs,
-                    first_offset: offset,
-                    left_out: r.left_out + one.left_out,
-                }
-            } else {
-                Reading {
-                    fibs: r.fibs + 1,
-                    broken: r.broken + 1,
-                    first_fib: r.first_fib,
-                    first_offset: r.first_offset,
-                    left_out: r.left_out + one.left_out,
-                }
-            }
-        }
-    }
-}
-
-fn nothing_read() -> Reading
-    ensures { result ≡ no_reading }
-{
-    Reading {
-        fibs: 0,
-        broken: 0,
-        first_fib: 0,
-        first_offset: 0,
-        left_out: 0,
+        broken: None,
+        left_out,
     }
 }
 
 // The whole FIBs, one after another.
-fn read_all(fibs: &[u8], subs: &mut [u64], services: &mut [u64]) -> Reading
-    requires { (64 ≤ length subs.old) × (256 ≤ length services.old) }
+fn read_all(fibs: &[u8], subs: &mut [u64; 64], services: &mut [u64; 256]) -> Reading
     ensures { AllRead fibs.now (held subs.old services.old) result (held subs.new services.new) }
 {
-    let mut reading = nothing_read();
-    let mut at: usize = 0;
-    while fibs.len() - at >= 32 {
-        let to = at + 30;
-        let one = read_field(&fibs[at..to], &mut *subs, &mut *services);
-        reading = noted(reading, one);
-        at += 32;
+    let mut reading = Reading::default();
+    let (whole, _) = fibs.as_chunks::<32>();
+    for fib in whole {
+        reading.note(read_field(&fib[..30], subs, services));
     }
     reading
 }
 
 // Reads FIBs of 32 bytes into the directory; an incomplete end is not read. Refusal 12 before any byte is read.
-pub fn read_fibs(fibs: &[u8], subs: &mut [u64], services: &mut [u64]) -> ReadAnswer
+pub fn read_fibs(fibs: &[u8], subs: &mut [u64], services: &mut [u64]) -> Result<Reading, Refusal>
     ensures { ReadPromise fibs.now (held subs.old services.old) result (held subs.new services.new) }
 {
-    if subs.len() < 64 {
-        return ReadAnswer::Refused(Refusal { number: 12 });
+    if subs.len() < 64 || services.len() < 256 {
+        return Err(Refusal::ShortDirectory);
     }
-    if services.len() < 256 {
-        return ReadAnswer::Refused(Refusal { number: 12 });
-    }
-    ReadAnswer::Done(read_all(fibs, &mut *subs, &mut *services))
+    let subs = subs.first_chunk_mut().unwrap();
+    let services = services.first_chunk_mut().unwrap();
+    Ok(read_all(fibs, subs, services))
 }

@@ -1,14 +1,14 @@
--- A whole entry, or what is left.
-use Rattle.fic_directory.proofs.Services.{whole_of, no_entry, an_entry}
+-- Written at its place, or left out.
+use Rattle.std.proofs.Common.{refl, ◌∙◌}
+use Rattle.fic_directory.proofs.Services.{shifted, left_out, entered_at}
 use Rattle.fic_directory.proofs.enter_service.Goals as goal
 
-pub returns-then-n-eq0 : goal.returns-then-n-eq0
-returns-then-n-eq0 c = no_entry _ _ _ _ c.entry_length-n.ensures c.if-n-eq0.true c.requires.0
-
-pub put_service-left-requires : goal.put_service-left-requires
-put_service-left-requires c = ((whole_of c.args.wide c.args.rest.now _ c.entry_length-n.ensures c.if-n-eq0.false).0, c.requires.1)
+pub returns-in_default : goal.returns-in_default
+returns-in_default c = left_out c.args.wide c.args.entry.now c.args.services.now c.told-services c.service_key-key.result c.service_key-key.ensures c.in_default.ensures
 
 pub returns : goal.returns
 returns c =
-    let entry = whole_of c.args.wide c.args.rest.now c.entry_length-n.result c.entry_length-n.ensures c.if-n-eq0.false in
-    an_entry _ _ _ _ _ _ entry.1 entry.0 c.put_service-left.ensures
+    entered_at c.args.wide c.args.entry.now c.args.services.now c.told-services c.service_key-key.result c.in-Some.place _ c.service_key-key.ensures c.in-Some.ensures
+    (c.copy_from_slice.ensures.after
+    ∙ shifted c.args.wide c.args.entry.now _ c.sid_bytes.result c.service_key-key.result c.as_chunks.result.0.now c.requires c.sid_bytes.ensures refl c.as_chunks.ensures.front c.service_key-key.ensures.is _ _ _
+    c.four.ensures c.four-2.ensures c.four-3.ensures)

@@ -1,13 +1,8 @@
--- The test on a place's first number is the standard's on the place.
-use Rattle.std.proofs.Common.{sym, ◌∙◌}
-use Rattle.fic_directory.proofs.Found.{is_free, search_hit, search_miss, search_end}
+-- The code's test of a place's first number is the standard's of the place.
+use Rattle.std.proofs.Common.{◌/◌, ◌%◌, ◌^◌, eqb, rules}
+use Rattle.spec_en300401.specs.Directory.{is_free_place}
+use Rattle.fic_directory.proofs.Found.{is_free, lowest}
 use Rattle.fic_directory.proofs.free_place.Goals as goal
 
-pub returns-then-is_free : goal.returns-then-is_free
-returns-then-is_free c = record { is = search_hit c.loop-p.invariant c.loop-p-test.true (is_free _ _ ∙ sym c.is_free.ensures ∙ c.if-is_free.true) }
-
-pub loop-p-preserved : goal.loop-p-preserved
-loop-p-preserved c = search_miss c.loop-p.invariant c.loop-p-test.true (is_free _ _ ∙ sym c.is_free.ensures ∙ c.if-is_free.false)
-
 pub returns : goal.returns
-returns c = record { is = search_end c.loop-p.invariant c.loop-p-test.false }
+returns c = lowest (λ w. eqb (w / 2 ^ 48 % 2) 0) is_free_place c.args.services.now c.lowest_place.result (λ w b a. search rules) (is_free c.args.services.now) c.lowest_place.ensures
