@@ -1,18 +1,15 @@
 // MSC: symbols to CIFs, a sub-channel's slice through the ring, frames (msc/mod.rs).
 #![tactic(auto)]
 
-ghost use Rattle.std.specs.Prelude.{◌≡◌, ◌++◌, ◌+◌, ◌*◌, ◌-◌, ◌<◌, ◌≤◌, length, take, drop};
+ghost use Rattle.std.specs.Prelude.{◌≡◌, ◌+◌, ◌*◌, ◌-◌, ◌<◌, ◌≤◌, length};
 ghost use Rattle.std.proofs.Math.Seq.{paste};
 ghost use Rattle.refusal.specs.Outcome.{told};
-ghost use Rattle.spec_en300401.specs.Puncturing.{mask, depuncture};
-ghost use Rattle.fec_protection.specs.Refusals.{profile_of, depunctured_length};
 ghost use Rattle.fec_viterbi.specs.Decoders.{ends_of, Decoded};
 ghost use Rattle.msc_handler.specs.Frames.{Framed, FrameLongEnough};
 ghost use Rattle.msc_handler.specs.Memory.{buffers_in, SameBuffers};
 ghost use Rattle.msc_handler.specs.Promises.{said_of, rotated, lengths_of, CifPromise, FeedPromise};
 ghost use Rattle.msc_handler.specs.Ring.{read_out, refilled, part};
 ghost use Rattle.msc_handler.specs.Code.{RingLent, FrameLent, CifLent, FrameMade};
-ghost use Rattle.msc_state.specs.States.{values_of};
 
 use fec_protection::Description;
 use fec_viterbi::Score;
@@ -35,6 +32,7 @@ pub struct Fed {
 }
 
 // The caller's memory: the CIF store and the ring, which keep what came in between calls, and what a frame is worked out in.
+// A symbol is refused where one is shorter than the description needs.
 #[derive(Drop)]
 pub struct Memory<'a> {
     pub cif: &'a mut [i8],

@@ -5,4 +5,4 @@ use Rattle.msc_handler.proofs.deinterleave.Given as goal
 
 -- so many values are read
 abbrev pub invariant-loop-i : goal.invariant-loop-i
-invariant-loop-i l = (k : ℕ) → k < l.i → at l.out k ≡ in_slot l.ring l.n (slot_of l.x k) k
+invariant-loop-i l = (k : ℕ) → k < l.i → at l.out k ≡ in_slot l.fn.ring l.n (slot_of l.x k) k
