@@ -3,6 +3,7 @@
 use mathlib.Core.Path.{◌≡◌, ap, ◌∙◌}
 use mathlib.Core.List.{List, [], ◌++◌, append_assoc}
 use Prim.Native.Nat.{ℕ, zero, suc}
+use Rattle.std.specs.Array.{IsFirstChunk}
 use Rattle.std.proofs.lemmas.List.{take-append-drop, drop_all}
 use lib.IntN.{ℤ}
 use lib.ListN.{take, drop, length-take}
@@ -11,8 +12,8 @@ use Rattle.fic_handler.specs.declared.Fic.{Fic}
 use Rattle.fic_handler.specs.Blocks.{Block, Buffers, fic_buffers, blocks_in}
 use Rattle.fic_handler.specs.Promise.{work_after, Processed}
 
-pub put_back : {X : Type 0} (n : ℕ) {xs ys : List X} → ys ≡ take n xs → ys ++ drop n xs ≡ xs
-put_back {X} n {xs} e = ap (λ (l : List X). l ++ drop n xs) e ∙ take-append-drop n xs
+pub put_back : {X : Type 0} {n : ℕ} {xs ys : List X} → IsFirstChunk xs ys n → ys ++ drop n xs ≡ xs
+put_back {X} {n} {xs} f = ap (λ (l : List X). l ++ drop n xs) f.same ∙ take-append-drop n xs
 
 -- nothing stands behind the front
 drop-take-same : {X : Type 0} (n : ℕ) (xs : List X) → drop n (take n xs) ≡ []

@@ -1,5 +1,6 @@
 -- Test by test, and then the blocks.
-use Rattle.std.proofs.Common.{◌≡◌, refl, sym, ap, ap₂, subst, List, ◌++◌, ℕ, ◌+◌, ◌*◌, ◌/◌, ◌<◌, ◌≤◌, ℤ, length, take, length-append, arith, rules}
+use Rattle.std.proofs.Common.{◌≡◌, refl, sym, ap, ap₂, subst, List, ◌++◌, ℕ, ◌+◌, ◌*◌, ◌/◌, ◌<◌, ◌≤◌, ℤ, length, length-append, arith, rules}
+use Rattle.std.specs.Array.{IsFirstChunk}
 use Rattle.refusal.specs.Outcome.{told, refuses}
 use Rattle.fic_handler.specs.Blocks.{joined, blocks_in, fic_buffers}
 use Rattle.fic_handler.specs.Promise.{process_refusal}
@@ -38,47 +39,38 @@ returns-in_err-depunctured c =
 pub returns-in_err-words : goal.returns-in_err-words
 returns-in_err-words c =
     let a = c.args in
-    let long : 3096 ≤ length a.depunctured.now = search rules in
-    let cut : c.in_ok-depunctured.depunctured.now ≡ take 3096 a.depunctured.now = search rules in
+    let depunctured_front : IsFirstChunk a.depunctured.now c.in_ok-depunctured.depunctured.now 3096 = search rules in
     let short : length a.words.now < 774 = search rules in
     let err : told c.from_residual-in_err-words.result ≡ refuses 8 = search rules in
-    away _ _ _ _ (no_words _ _ _ _ c.if-first-gt-SYMBOL.false c.if-second-gt-SYMBOL.false c.if-third-gt-SYMBOL.false long short) err
-    (ap (λ (d : List ℤ). fic_buffers d a.words.now a.bits.now a.fibs.now) (put_back 3096 cut))
+    away _ _ _ _ (no_words _ _ _ _ c.if-first-gt-SYMBOL.false c.if-second-gt-SYMBOL.false c.if-third-gt-SYMBOL.false depunctured_front.enough short) err
+    (ap (λ (d : List ℤ). fic_buffers d a.words.now a.bits.now a.fibs.now) (put_back depunctured_front))
 
 pub returns-in_err-bits : goal.returns-in_err-bits
 returns-in_err-bits c =
     let a = c.args in
-    let long : 3096 ≤ length a.depunctured.now = search rules in
-    let cut : c.in_ok-depunctured.depunctured.now ≡ take 3096 a.depunctured.now = search rules in
-    let long-words : 774 ≤ length a.words.now = search rules in
-    let cut-words : c.in_ok-words.words.now ≡ take 774 a.words.now = search rules in
+    let depunctured_front : IsFirstChunk a.depunctured.now c.in_ok-depunctured.depunctured.now 3096 = search rules in
+    let words_front : IsFirstChunk a.words.now c.in_ok-words.words.now 774 = search rules in
     let short : length a.bits.now < 774 = search rules in
     let err : told c.from_residual-in_err-bits.result ≡ refuses 8 = search rules in
-    away _ _ _ _ (no_bits _ _ _ _ c.if-first-gt-SYMBOL.false c.if-second-gt-SYMBOL.false c.if-third-gt-SYMBOL.false long long-words short) err
-    (ap₂ (λ (d : List ℤ) (w : List ℕ). fic_buffers d w a.bits.now a.fibs.now) (put_back 3096 cut) (put_back 774 cut-words))
+    away _ _ _ _ (no_bits _ _ _ _ c.if-first-gt-SYMBOL.false c.if-second-gt-SYMBOL.false c.if-third-gt-SYMBOL.false depunctured_front.enough words_front.enough short) err
+    (ap₂ (λ (d : List ℤ) (w : List ℕ). fic_buffers d w a.bits.now a.fibs.now) (put_back depunctured_front) (put_back words_front))
 
 pub returns-then-fibs-len : goal.returns-then-fibs-len
 returns-then-fibs-len c =
     let a = c.args in
-    let long : 3096 ≤ length a.depunctured.now = search rules in
-    let cut : c.in_ok-depunctured.depunctured.now ≡ take 3096 a.depunctured.now = search rules in
-    let long-words : 774 ≤ length a.words.now = search rules in
-    let cut-words : c.in_ok-words.words.now ≡ take 774 a.words.now = search rules in
-    let long-bits : 774 ≤ length a.bits.now = search rules in
-    let cut-bits : c.in_ok-bits.bits.now ≡ take 774 a.bits.now = search rules in
+    let depunctured_front : IsFirstChunk a.depunctured.now c.in_ok-depunctured.depunctured.now 3096 = search rules in
+    let words_front : IsFirstChunk a.words.now c.in_ok-words.words.now 774 = search rules in
+    let bits_front : IsFirstChunk a.bits.now c.in_ok-bits.bits.now 774 = search rules in
     let short = counted a.first.now a.second.now a.third.now (λ (n : ℕ). length a.fibs.now < 96 * n) c.if-fibs-len.true in
-    away _ _ _ _ (no_fibs _ _ _ _ c.if-first-gt-SYMBOL.false c.if-second-gt-SYMBOL.false c.if-third-gt-SYMBOL.false long long-words long-bits short) refl
-    (λ i. fic_buffers (put_back 3096 cut i) (put_back 774 cut-words i) (put_back 774 cut-bits i) a.fibs.now)
+    away _ _ _ _ (no_fibs _ _ _ _ c.if-first-gt-SYMBOL.false c.if-second-gt-SYMBOL.false c.if-third-gt-SYMBOL.false depunctured_front.enough words_front.enough bits_front.enough short) refl
+    (λ i. fic_buffers (put_back depunctured_front i) (put_back words_front i) (put_back bits_front i) a.fibs.now)
 
 pub returns : goal.returns
 returns c =
     let a = c.args in
-    let long : 3096 ≤ length a.depunctured.now = search rules in
-    let cut : c.in_ok-depunctured.depunctured.now ≡ take 3096 a.depunctured.now = search rules in
-    let long-words : 774 ≤ length a.words.now = search rules in
-    let cut-words : c.in_ok-words.words.now ≡ take 774 a.words.now = search rules in
-    let long-bits : 774 ≤ length a.bits.now = search rules in
-    let cut-bits : c.in_ok-bits.bits.now ≡ take 774 a.bits.now = search rules in
+    let depunctured_front : IsFirstChunk a.depunctured.now c.in_ok-depunctured.depunctured.now 3096 = search rules in
+    let words_front : IsFirstChunk a.words.now c.in_ok-words.words.now 774 = search rules in
+    let bits_front : IsFirstChunk a.bits.now c.in_ok-bits.bits.now 774 = search rules in
     let enough = counted a.first.now a.second.now a.third.now (λ (n : ℕ). 96 * n ≤ length a.fibs.now) c.if-fibs-len.false in
-    done _ _ _ _ (no_refusal _ _ _ _ c.if-first-gt-SYMBOL.false c.if-second-gt-SYMBOL.false c.if-third-gt-SYMBOL.false long long-words long-bits enough) refl
-    (whole_call c.join-joined.ensures cut cut-words cut-bits c.process_blocks.ensures)
+    done _ _ _ _ (no_refusal _ _ _ _ c.if-first-gt-SYMBOL.false c.if-second-gt-SYMBOL.false c.if-third-gt-SYMBOL.false depunctured_front.enough words_front.enough bits_front.enough enough) refl
+    (whole_call c.join-joined.ensures depunctured_front.same words_front.same bits_front.same c.process_blocks.ensures)
