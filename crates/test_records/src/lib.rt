@@ -94,7 +94,8 @@ impl fmt::Display for Count {
     }
 }
 
-// The counts by kind; a kind that has no place is not counted.
+// The counts by kind; a kind that has no place is not counted. A kind stays the number that the file has: each program knows only its own, and
+// those that none knows are counted too.
 #[derive(Clone, Copy)]
 pub struct Tally {
     pub counts: [Count; 16],
