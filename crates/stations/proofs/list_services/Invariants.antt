@@ -1,6 +1,0 @@
--- Each turn leaves one place fewer.
-use Rattle.std.proofs.Common.{◌-◌}
-use Rattle.stations.proofs.list_services.Given as goal
-
-abbrev pub decreases-loop-place : goal.decreases-loop-place
-decreases-loop-place g l = 64 - l.place
