@@ -2,7 +2,7 @@
 -- Assumes nothing.
 use mathlib.Core.Path.{◌≡◌, refl, sym, ap, ap₂, ◌∙◌}
 use mathlib.Core.Bool.{Bool, false, ◌&&◌}
-use mathlib.Core.List.{List, map}
+use mathlib.Core.List.{List, [], ◌∷◌, map}
 use Prim.Native.Nat.{ℕ, ◌+◌, ◌<◌}
 use borrow.Author.Tests.{lt-ltb, eq-eqb, ne_eqb}
 use lib.Dec.{eqb}
@@ -14,7 +14,7 @@ use Rattle.spec_en300401.specs.Puncturing.{keeps, rank, vector}
 use Rattle.spec_en300401.specs.Uep.{Row, uep_table, is_for, no_row}
 use Rattle.fec_profiles.specs.declared.TheConstants.{P_CODES, UEP_PROFILES}
 use Rattle.fec_profiles.specs.declared.UepProfile.{UepProfile}
-use Rattle.fec_profiles.specs.Rows.{bits, vector_at, index, sections_of, profile_row}
+use Rattle.fec_profiles.specs.Rows.{bits, vector_at, index, region_at, profile_row}
 
 -- the 24 vectors
 pub vectors : P_CODES ≡ list_of 24 (λ (k : ℕ). bits (vector (k + 1)))
@@ -27,13 +27,18 @@ vector_is d pi h =
     rw (lt-ltb pi 24 h) (ap (λ (xs : List (List ℕ)). get_or xs pi d) vectors ∙ list_of-at 24 (λ (k : ℕ). bits (vector (k + 1))) d pi h)
 
 -- the 64 rows
-pub rows : UEP_PROFILES ≡ map profile_row uep_table
-unfolding profile_row sections_of index uep_table
+abbrev pub numbers : Row → List ℕ
+numbers p =
+    p.rate ∷ p.level ∷ (region_at p.regions 0).blocks ∷ (region_at p.regions 1).blocks ∷ (region_at p.regions 2).blocks ∷ (region_at p.regions 3).blocks
+    ∷ index (region_at p.regions 0) ∷ index (region_at p.regions 1) ∷ index (region_at p.regions 2) ∷ index (region_at p.regions 3) ∷ []
+
+pub rows : UEP_PROFILES ≡ map numbers uep_table
+unfolding index uep_table
 rows = refl
 
-pub row_is : (d : UepProfile) (k : ℕ) → k < 64 → get_or UEP_PROFILES k d ≡ profile_row (get_or uep_table k no_row)
+pub row_is : (d : List ℕ) (k : ℕ) → k < 64 → get_or UEP_PROFILES k d ≡ numbers (get_or uep_table k no_row)
 unfolding uep_table
-row_is d k h = ap (λ (xs : List UepProfile). get_or xs k d) rows ∙ get_or-map profile_row uep_table k no_row d h
+row_is d k h = ap (λ (xs : List (List ℕ)). get_or xs k d) rows ∙ get_or-map numbers uep_table k no_row d h
 
 -- the scan's two tests of a row, as the code makes them
 module _ (k l : ℕ) (p : Row) (r : UepProfile) (e : r ≡ profile_row p) where

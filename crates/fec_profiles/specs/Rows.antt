@@ -23,9 +23,12 @@ index r = pick_n (eqb r.blocks 0) 24 (r.pi - 1)
 abbrev pub region_at : List Region → ℕ → Region
 region_at rs i = get_or rs i no_region
 
+abbrev pub section_by : ℕ → ℕ → Section
+section_by blocks pi = record { blocks = blocks; pi = pi }
+
 -- a region as the code holds it
 abbrev pub section_of : Region → Section
-section_of r = record { blocks = r.blocks; pi = index r }
+section_of r = section_by r.blocks (index r)
 
 -- four regions
 unfoldable pub sections_of : List Region → List Section

@@ -32,7 +32,10 @@ unit_other zero n = absurd (n refl)
 unit_other (suc o) n = refl
 
 -- the code's levels are the standard's
-pub level_is : (d : List EepLevel) (e : EepLevel) (o l : ℕ) → o ≤ 1 → l ≤ 3 → get_or (get_or EEP_LEVELS o d) l e ≡ level_row o l
+abbrev pub numbers : EepLevel → List ℕ
+numbers r = r.fold1 ∷ r.fold2 ∷ r.pi1 ∷ r.pi2 ∷ []
+
+pub level_is : (d : List (List ℕ)) (e : List ℕ) (o l : ℕ) → o ≤ 1 → l ≤ 3 → get_or (get_or EEP_LEVELS o d) l e ≡ numbers (level_row o l)
 unfolding level_row level_of
 level_is d e zero zero h k = refl
 level_is d e zero (suc zero) h k = refl

@@ -42,24 +42,23 @@ struct EepLevel {
     pi2: usize,
 }
 
-// Levels by fold1, fold2, pi1 and pi2.
-macro_rules! levels {
-    ($($fold1:literal $fold2:literal $pi1:literal $pi2:literal),*) => {
-        [$(EepLevel { fold1: $fold1, fold2: $fold2, pi1: $pi1, pi2: $pi2 }),*]
-    };
-}
-
-// 1-A to 4-A, 1-B to 4-B.
-const EEP_LEVELS: [[EepLevel; 4]; 2] = [
-    levels!(6 0 23 22, 2 4 13 12, 6 0 7 6, 4 2 2 1),
-    levels!(24 0 9 8, 24 0 5 4, 24 0 3 2, 24 0 1 0),
+// 1-A to 4-A, 1-B to 4-B: fold1, fold2, pi1 and pi2.
+static EEP_LEVELS: [[[usize; 4]; 4]; 2] = [
+    [[6, 0, 23, 22], [2, 4, 13, 12], [6, 0, 7, 6], [4, 2, 2, 1]],
+    [[24, 0, 9, 8], [24, 0, 5, 4], [24, 0, 3, 2], [24, 0, 1, 0]],
 ];
 
 fn eep_level(option: u8, level: u8) -> EepLevel
     requires { (option ≤ 1) × (level ≤ 3) }
     ensures { result ≡ level_row option level }
 {
-    EEP_LEVELS[usize::from(option)][usize::from(level)]
+    let [fold1, fold2, pi1, pi2] = EEP_LEVELS[usize::from(option)][usize::from(level)];
+    EepLevel {
+        fold1,
+        fold2,
+        pi1,
+        pi2,
+    }
 }
 
 // The unit of a bit rate: 8 kbit/s, or 32.

@@ -6,6 +6,7 @@ use Rattle.fec_profiles.proofs.uep_profile.Given as goal
 abbrev pub invariant-loop-k : goal.invariant-loop-k
 invariant-loop-k l =
     record {
+      same : l.wanted ≡ l.level;
       upto : l.k ≤ 64;
       passed : (j : ℕ) → j < l.k → is_for l.bitrate l.level (get_or uep_table j no_row) ≡ false;
     }
