@@ -171,17 +171,6 @@ pub record Walked (field : List ℕ) (old now : Held) (left : ℕ) (rest : List 
   pub puts : (beyond : Held) (n : ℕ) → put_all (entries_of_all (figs_from 0 field).figs) (entered (and_beyond old beyond) n)
       ≡ put_all (entries_of_all (figs_from (length field - length rest) field).figs) (entered (and_beyond now beyond) (n + left))
 
-pub walk_start : (field : List ℕ) (h : Held) → Walked field h h 0 field
-walk_start field h =
-    let none : 0 ≡ length field - length field = omega arith in
-    record {
-      inside = omega arith;
-      rest_is = ap (λ (k : ℕ). drop k field) none;
-      few = omega arith;
-      broken_same = ap (λ (k : ℕ). (figs_from k field).broken) (sym none);
-      puts = λ beyond n. (λ i. put_all (entries_of_all (figs_from (none i) field).figs) (entered (and_beyond h beyond) (zero_more n i)));
-    }
-
 module _ {field : List ℕ} {old now : Held} {left : ℕ} {rest : List ℕ} (w : Walked field old now left rest) where
   abbrev at : ℕ
   at = length field - length rest

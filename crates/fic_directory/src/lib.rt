@@ -116,7 +116,7 @@ const UEP_ROWS: [(u16, u8, u16); 64] = [
     (384, 1, 416),
 ];
 
-// A sub-channel's number.
+// A sub-channel's number: start address, size, bit rate and level, then the option at 56, EEP at 60, and at 61 that it is there.
 #[tactic(auto, unfolding(fic_directory_places::specs::Places::sub_word))]
 fn packed(d: Description) -> u64
     requires { d.eep_option < 16 }
@@ -227,7 +227,7 @@ fn first_entry(rest: &[u8], wide: bool) -> Option<(&[u8], &[u8])>
     rest.split_at_checked(head + 1 + 2 * components)
 }
 
-// A service's identifier and its width, as they stand in its first number.
+// A service's identifier and, at 32, its width, as they stand in its first number.
 fn service_key(entry: &[u8], wide: bool) -> u64
     requires { IsEntry wide entry.now }
     ensures { KeyIs (service_in wide entry.now) result }
@@ -239,7 +239,7 @@ fn service_key(entry: &[u8], wide: bool) -> u64
     }
 }
 
-// Whether a place's first number is marked, and the service's of a key.
+// Whether a place's first number says, at 48, that a service is there, and has its key.
 fn is_key(number: u64, key: u64) -> bool
     ensures { result ≡ is_key key number }
 {
@@ -247,6 +247,7 @@ fn is_key(number: u64, key: u64) -> bool
 }
 
 // The lowest place whose first number passes a test.
+// Four numbers to a place, flat: std says nothing of what a slice ends as whose chunks are written, so as `[[u64; 4]; 64]` their writes have no proof.
 fn lowest_place<F: Fn(u64) -> bool>(services: &[u64; 256], test: F) -> Option<usize>
     requires { F.IsAlwaysCallable test }
     ensures { LowestPlace (F.post test) services.now result }
@@ -286,7 +287,7 @@ fn four(pairs: &[[u8; 2]], j: usize) -> u64
         + (u64::from(component(pairs, k + 3)) << 48)
 }
 
-// Enters a service; says whether it is left out, for want of a place.
+// Enters a service, its count of components at 40 of the first number; says whether it is left out, for want of a place.
 fn enter_service(entry: &[u8], wide: bool, services: &mut [u64; 256]) -> bool
     requires { IsEntry wide entry.now }
     ensures { ServicePut wide entry.now services.old result services.new }
@@ -315,7 +316,7 @@ fn read_services(body: &[u8], wide: bool, services: &mut [u64; 256]) -> usize
     left_out
 }
 
-// One FIG: how many entries of services were left out.
+// One FIG: how many entries of services were left out. Above 63 the flags say the next configuration or another ensemble; 32 says 32-bit identifiers.
 fn read_fig(kind: u8, body: &[u8], subs: &mut [u64; 64], services: &mut [u64; 256]) -> usize
     ensures { FigRead kind body.now (held subs.old services.old) result (held subs.new services.new) }
 {
