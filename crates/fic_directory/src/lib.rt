@@ -317,6 +317,7 @@ fn read_services(body: &[u8], wide: bool, services: &mut [u64; 256]) -> usize
 }
 
 // One FIG: how many entries of services were left out. Above 63 the flags say the next configuration or another ensemble; 32 says 32-bit identifiers.
+// The places are two parameters: a struct of the two `&mut` owes each function two clauses more, on what its fields point to.
 fn read_fig(kind: u8, body: &[u8], subs: &mut [u64; 64], services: &mut [u64; 256]) -> usize
     ensures { FigRead kind body.now (held subs.old services.old) result (held subs.new services.new) }
 {
