@@ -154,6 +154,18 @@ pub is_some : (o : Option ℕ) (p : ℕ) → Some p ≡ answered o → o ≡ som
 is_some none p e = let z : ◌≡◌ {A = ℕ} 0 1 = cc in absurd (omega arith)
 is_some (some q) p e = let same : p ≡ q = cc in ap some (sym same)
 
+-- and where the standard's answer is known
+below_all : (f : Option Service → Bool) (xs : List ℕ) (q : ℕ) → first_place f 0 (services_of xs) ≡ some q → q < 64
+below_all f xs q e = omega (arith, subst (λ (o : Option ℕ). IfSome (answered o) (λ p. p < 0 + length (services_of xs))) e (below f 0 (services_of xs)), sixty_four xs)
+
+pub place-below : (s : Service) (xs : List ℕ) (q : ℕ) → place_for s (services_of xs) ≡ some q → q < 64
+unfolding place_for
+place-below s xs q e = go (first_place (is_service s) 0 (services_of xs)) (below_all (is_service s) xs) e
+  where
+    go : (o : Option ℕ) → ((p : ℕ) → o ≡ some p → p < 64) → or_first o (first_place is_free_place 0 (services_of xs)) ≡ some q → q < 64
+    go none f e = below_all is_free_place xs q e
+    go (some p) f e = f q e
+
 -- ---- what is beyond the places is none of them
 
 pub services_beyond : (xs beyond : List ℕ) → length xs ≡ 256 → services_of (xs ++ beyond) ≡ services_of xs

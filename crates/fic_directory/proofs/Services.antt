@@ -130,7 +130,7 @@ key_narrow false (a ∷ b ∷ rest) r t w e h = record { is = omega arith; small
 
 -- ---- the components
 
-length_pairs : (n : ℕ) (xs : List ℕ) → length xs ≡ 2 * n → length (pairs_of xs) ≡ n
+pub length_pairs : (n : ℕ) (xs : List ℕ) → length xs ≡ 2 * n → length (pairs_of xs) ≡ n
 unfolding pairs_of
 length_pairs zero [] h = refl
 length_pairs zero (a ∷ xs) h = absurd (omega arith)
