@@ -1,5 +1,5 @@
 // The library for C and Rust: each export is a bare call of a function below with the same promise. include/feltcomet.h declares and explains them.
-// A refusal is returned as its number, 0 where the call is done; after a refusal the caller's buffers are as they were.
+// A description is six numbers and a refusal its number, 0 where the call is done: C's form. After a refusal the caller's buffers are as they were.
 #![tactic(auto)]
 
 ghost use Rattle.std.specs.Prelude.{◌≡◌};
@@ -19,6 +19,8 @@ ghost use Rattle.c_fic.specs.Fic.{figures, FicCall};
 ghost use Rattle.c_directory.specs.Calls.{EmptyCall, ReadCall, SubCall, ServiceCall, AudioCall};
 ghost use Rattle.fic_directory_places.specs.Places.{held};
 ghost use Rattle.c_msc.specs.Msc.{SetUpCall, ResetCall, fed_places, FeedCall};
+
+use msc_handler::Memory;
 
 #[unsafe(no_mangle)]
 pub extern "C" fn feltcomet_energy_dispersal(bits: &mut [u8])
@@ -52,14 +54,15 @@ pub extern "C" fn feltcomet_judge(
 ) -> u8
     ensures { result ≡ refusal_of (describes start_addr sub_size bitrate protection_level eep_option is_eep) }
 {
-    c_description::judge(
+    let d = c_description::described(
         start_addr,
         sub_size,
         bitrate,
         protection_level,
         eep_option,
         is_eep,
-    )
+    );
+    refusal::number(&c_description::judge(d))
 }
 
 #[unsafe(no_mangle)]
@@ -74,15 +77,15 @@ pub extern "C" fn feltcomet_profile(
 ) -> u8
     ensures { Looked (describes start_addr sub_size bitrate protection_level eep_option is_eep) 8 row_of row.old row.new result }
 {
-    c_description::profile(
+    let d = c_description::described(
         start_addr,
         sub_size,
         bitrate,
         protection_level,
         eep_option,
         is_eep,
-        row,
-    )
+    );
+    refusal::number(&c_description::profile(d, row))
 }
 
 #[unsafe(no_mangle)]
@@ -97,15 +100,15 @@ pub extern "C" fn feltcomet_needed_size(
 ) -> u8
     ensures { Looked (describes start_addr sub_size bitrate protection_level eep_option is_eep) 1 (one kept_size) size.old size.new result }
 {
-    c_description::needed_size(
+    let d = c_description::described(
         start_addr,
         sub_size,
         bitrate,
         protection_level,
         eep_option,
         is_eep,
-        size,
-    )
+    );
+    refusal::number(&c_description::needed_size(d, size))
 }
 
 #[unsafe(no_mangle)]
@@ -120,15 +123,15 @@ pub extern "C" fn feltcomet_depunctured_size(
 ) -> u8
     ensures { Looked (describes start_addr sub_size bitrate protection_level eep_option is_eep) 1 (one mother_size) size.old size.new result }
 {
-    c_description::depunctured_size(
+    let d = c_description::described(
         start_addr,
         sub_size,
         bitrate,
         protection_level,
         eep_option,
         is_eep,
-        size,
-    )
+    );
+    refusal::number(&c_description::depunctured_size(d, size))
 }
 
 #[unsafe(no_mangle)]
@@ -144,23 +147,22 @@ pub extern "C" fn feltcomet_depuncture_msc(
 ) -> u8
     ensures { FilledMsc (describes start_addr sub_size bitrate protection_level eep_option is_eep) soft.now out.old out.new result }
 {
-    c_fec::depuncture_msc(
-        soft,
+    let d = c_description::described(
         start_addr,
         sub_size,
         bitrate,
         protection_level,
         eep_option,
         is_eep,
-        out,
-    )
+    );
+    refusal::number(&c_fec::depuncture_msc(soft, d, out))
 }
 
 #[unsafe(no_mangle)]
 pub extern "C" fn feltcomet_depuncture_fic(soft: &[i8], out: &mut [i8]) -> u8
     ensures { FilledFic soft.now out.old out.new result }
 {
-    c_fec::depuncture_fic(soft, out)
+    refusal::number(&c_fec::depuncture_fic(soft, out))
 }
 
 #[unsafe(no_mangle)]
@@ -172,7 +174,7 @@ pub extern "C" fn feltcomet_viterbi_decode_state0(
 ) -> u8
     ensures { Decoder zero_end soft.now words.old bits.old metric.old result words.new bits.new metric.new }
 {
-    c_fec::viterbi_decode_state0(soft, words, bits, metric)
+    refusal::number(&c_fec::viterbi_decode_state0(soft, words, bits, metric))
 }
 
 #[unsafe(no_mangle)]
@@ -184,7 +186,7 @@ pub extern "C" fn feltcomet_viterbi_decode_with_metric(
 ) -> u8
     ensures { Decoder free_end soft.now words.old bits.old metric.old result words.new bits.new metric.new }
 {
-    c_fec::viterbi_decode_with_metric(soft, words, bits, metric)
+    refusal::number(&c_fec::viterbi_decode_with_metric(soft, words, bits, metric))
 }
 
 #[unsafe(no_mangle)]
@@ -202,7 +204,7 @@ pub extern "C" fn feltcomet_process_fic(
 ) -> u8
     ensures { FicCall first.now second.now third.now (fic_buffers depunctured.old words.old bits.old fibs.old) (figures counts.old metrics.old percents.old) result (fic_buffers depunctured.new words.new bits.new fibs.new) (figures counts.new metrics.new percents.new) }
 {
-    c_fic::process_fic(
+    refusal::number(&c_fic::process_fic(
         first,
         second,
         third,
@@ -213,7 +215,7 @@ pub extern "C" fn feltcomet_process_fic(
         counts,
         metrics,
         percents,
-    )
+    ))
 }
 
 #[unsafe(no_mangle)]
@@ -229,23 +231,22 @@ pub extern "C" fn feltcomet_set_up(
 ) -> u8
     ensures { SetUpCall (describes start_addr sub_size bitrate protection_level eep_option is_eep) ring.old state.old result ring.new state.new }
 {
-    c_msc::set_up(
+    let d = c_description::described(
         start_addr,
         sub_size,
         bitrate,
         protection_level,
         eep_option,
         is_eep,
-        ring,
-        state,
-    )
+    );
+    refusal::number(&c_msc::set_up(d, ring, state))
 }
 
 #[unsafe(no_mangle)]
 pub extern "C" fn feltcomet_reset(state: &mut [u64], ring: &mut [i8]) -> u8
     ensures { ResetCall state.old ring.old result ring.new state.new }
 {
-    c_msc::reset(state, ring)
+    refusal::number(&c_msc::reset(state, ring))
 }
 
 #[unsafe(no_mangle)]
@@ -264,9 +265,7 @@ pub extern "C" fn feltcomet_feed_symbol(
 ) -> u8
     ensures { FeedCall soft.now (buffers cif.old ring.old deinterleaved.old depunctured.old words.old bits.old frame.old) (fed_places state.old length.old percent.old) result (buffers cif.new ring.new deinterleaved.new depunctured.new words.new bits.new frame.new) (fed_places state.new length.new percent.new) }
 {
-    c_msc::feed_symbol(
-        state,
-        soft,
+    let mut memory = Memory {
         cif,
         ring,
         deinterleaved,
@@ -274,16 +273,15 @@ pub extern "C" fn feltcomet_feed_symbol(
         words,
         bits,
         frame,
-        length,
-        percent,
-    )
+    };
+    refusal::number(&c_msc::feed_symbol(state, soft, &mut memory, length, percent))
 }
 
 #[unsafe(no_mangle)]
 pub extern "C" fn feltcomet_directory_empty(subs: &mut [u64], services: &mut [u64]) -> u8
     ensures { EmptyCall (held subs.old services.old) result (held subs.new services.new) }
 {
-    c_directory::empty(subs, services)
+    refusal::number(&c_directory::empty(subs, services))
 }
 
 #[unsafe(no_mangle)]
@@ -295,7 +293,7 @@ pub extern "C" fn feltcomet_directory_read(
 ) -> u8
     ensures { ReadCall fibs.now (held subs.old services.old) counts.old result (held subs.new services.new) counts.new }
 {
-    c_directory::read(fibs, subs, services, counts)
+    refusal::number(&c_directory::read(fibs, subs, services, counts))
 }
 
 #[unsafe(no_mangle)]
@@ -306,7 +304,7 @@ pub extern "C" fn feltcomet_directory_sub_channel(
 ) -> u8
     ensures { SubCall subs.now id description.old result description.new }
 {
-    c_directory::sub_channel(subs, id, description)
+    refusal::number(&c_directory::sub_channel(subs, id, description))
 }
 
 #[unsafe(no_mangle)]
@@ -317,7 +315,7 @@ pub extern "C" fn feltcomet_directory_service(
 ) -> u8
     ensures { ServiceCall services.now place answer.old result answer.new }
 {
-    c_directory::service(services, place, answer)
+    refusal::number(&c_directory::service(services, place, answer))
 }
 
 #[unsafe(no_mangle)]
@@ -328,5 +326,5 @@ pub extern "C" fn feltcomet_directory_audio(
 ) -> u8
     ensures { AudioCall services.now place answer.old result answer.new }
 {
-    c_directory::audio(services, place, answer)
+    refusal::number(&c_directory::audio(services, place, answer))
 }
