@@ -10,7 +10,7 @@ use Rattle.refusal.specs.Outcome.{outcome, unless_refused, check, or_else}
 use Rattle.refusal.proofs.Checks.{clean, zeroed, later}
 use Rattle.refusal.proofs.Laws.{or_else-zero}
 use Rattle.fec_protection.specs.declared.Description.{Description}
-use Rattle.fec_protection.specs.declared.Judged.TheVariants.{«Accepted» as judged-accepted}
+use Rattle.std.specs.Prelude.{Ok}
 use Rattle.msc_state.specs.declared.State.{State}
 use Rattle.msc_state.specs.States.{fresh_state, set_up_refusal, reset_refusal}
 use Rattle.msc_state.proofs.Refusals.{Sound}
@@ -38,7 +38,7 @@ held_of h = held (state_in h.state) h.cif h.ring
 -- ---- set-up and reset, by the number that was answered
 
 abbrev pub done : Description → SetUp
-done d = record { state = fresh_state d; answer = judged-accepted }
+done d = record { state = fresh_state d; answer = Ok tt }
 
 pub prepared : {n : ℕ} {d : Description} {other : State} {ring ring' : List ℤ} → n ≡ 0 → ring' ≡ cleared d ring → Prepared n d other ring (done d) ring'
 prepared {n} {d} {other} {ring} {ring'} z e =
