@@ -1,6 +1,6 @@
 -- Every entry of a FIB is within the bits that hold it.
 -- Assumes nothing.
-use mathlib.Core.Path.{◌≡◌, refl, ap}
+use mathlib.Core.Path.{◌≡◌, refl}
 use mathlib.Core.Bool.{Bool, true, false, cond}
 use mathlib.Core.List.{List, [], ◌∷◌, ◌++◌}
 use Prim.Native.Nat.{ℕ, zero, suc, ◌+◌, ◌*◌, ◌/◌, ◌%◌, ◌^◌, ◌<◌, ◌≤◌}
@@ -18,16 +18,8 @@ use Rattle.spec_en300401.specs.Uep.{Row, uep_table, no_row}
 use Rattle.spec_en300401.specs.Organisation.{SubChannel, Service, Entry, sub_channel, service, units_of, rate_of, sub_ch_id, short_form, long_form, short_entry, sub_channels, number_of, pairs_of, sid_bytes, component_bytes, entry_bytes, service_in, services_in, type_zero, entries_in, entries_of_all, entries_of}
 use Rattle.spec_en300401.specs.Directory.{fibs_in}
 use Rattle.fic_directory.specs.Promises.{entries_of_fibs}
+use Rattle.fic_directory.proofs.Services.{length_pairs}
 use Rattle.thm_directory.specs.Theorems.{SubFits, ServiceFits}
-
--- the pairs of an even number of bytes
-length_pairs : (n : ℕ) (xs : List ℕ) → length xs ≡ 2 * n → length (pairs_of xs) ≡ n
-unfolding pairs_of
-length_pairs zero [] h = refl
-length_pairs zero (a ∷ xs) h = absurd (omega arith)
-length_pairs (suc n) [] h = absurd (omega arith)
-length_pairs (suc n) (a ∷ []) h = absurd (omega arith)
-length_pairs (suc n) (a ∷ b ∷ xs) h = ap suc (length_pairs n xs (omega arith))
 
 pub data EntryFits : Entry → Type 0 where
   sub-fits : {id : ℕ} {c : SubChannel} → id < 64 → SubFits c → EntryFits (sub_channel id c)

@@ -1,7 +1,6 @@
 pub mod Calls
 pub mod Entries
 pub mod Fits
-pub mod Found
 pub mod Long
 pub mod Packed
 pub mod Same

@@ -15,7 +15,7 @@ use Rattle.spec_en300401.specs.Organisation.{SubChannel, Service, Entry, sub_cha
 use Rattle.spec_en300401.specs.Directory.{places, Listed, place_for, put_at as listAt, enter, enter_all, read_all}
 use Rattle.fic_directory_places.specs.Places.{field, flag_at, sub_word, sub_in, subs_of, service_head, component_word, service_words, service_at, services_of, directory_in}
 use Rattle.fic_directory.specs.Promises.{Entered, entered, put_at, put, put_all, fibs_of, entries_of_fibs}
-use Rattle.thm_directory.proofs.Found.{place-below}
+use Rattle.fic_directory.proofs.Found.{place-below}
 use Rattle.thm_directory.specs.Theorems.{SubFits, ServiceFits, listed_in, ReadIsDirectory}
 use Rattle.thm_directory.proofs.Packed.{sub_held, service-held}
 use Rattle.thm_directory.proofs.Fits.{EntryFits, sub-fits, service-fits, AllFit, fit_none, fit_more, fibs_fit}
