@@ -48,8 +48,8 @@ impl Reading {
     }
 }
 
-// kbit/s, protection level and units of the short form's 64 rows.
-const UEP_ROWS: [(u16, u8, u16); 64] = [
+// kbit/s, protection level and units of the short form's 64 rows. A static, since a const is written out on the stack at each use.
+static UEP_ROWS: [(u16, u8, u16); 64] = [
     (32, 5, 16),
     (32, 4, 21),
     (32, 3, 24),
