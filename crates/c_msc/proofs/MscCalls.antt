@@ -30,7 +30,8 @@ answered : {d : Description} {other : State} {ring ring' : List ℤ} {state : Li
 answered zero x p e = let z : refuses (numbered x) ≡ outcome 0 tt = sym (ap told e) ∙ p.answer in absurd (let y : ◌≡◌ {A = ℕ} 0 1 = cc in omega arith)
 answered (suc n) x p e = let z : refuses (numbered x) ≡ outcome (suc n) tt = sym (ap told e) ∙ p.answer in record { answer = cc; ring_is = p.ring_is; state_is = refl }
 
-pub reset_refused : {s : State} {ring ring' : List ℤ} {r : SetUp} {x : Refusal} (state : List ℕ) (read : Result State Refusal) (q : Result (Unit {0}) Refusal) → told read ≡ outcome (state_refusal state) (state_in state) → read ≡ Ok s → ResetPromise s ring r ring' → r.answer ≡ Err x → IsErrAnd q (λ y. y ≡ x)
+pub reset_refused : {s : State} {ring ring' : List ℤ} {r : SetUp} {x : Refusal} (state : List ℕ) (read : Result State Refusal) (q : Result (Unit {0}) Refusal)
+    → told read ≡ outcome (state_refusal state) (state_in state) → read ≡ Ok s → ResetPromise s ring r ring' → r.answer ≡ Err x → IsErrAnd q (λ y. y ≡ x)
     → Readied (reset_number state (length ring)) (state_in state).channel.description ring state (number_of (told q)) ring' state
 reset_refused state read (Ok u) e o p f h = absurd h
 reset_refused {s} {ring} {ring'} {r} {x} state read (Err y) e o p f h =

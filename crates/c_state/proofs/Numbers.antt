@@ -28,7 +28,8 @@ some_flag bs k e = go (any_of bs) refl
     go false q = absurd (true≢false (sym e ∙ off_at (none_of bs q) k))
 
 -- number n, of test k, is above what its field holds
-pub over_field : {E : Type 0} (xs : List ℕ) (k most n : ℕ) {x : Refusal} (r : Result State Refusal) → get_or (overs xs) k false ≡ ltb most n → 11 ≤ length xs → (x ≡ BadState) × ((e : E) × (n < most + 1 → ⊥)) → IsErrAnd r (λ y. y ≡ x) → told r ≡ outcome (state_refusal xs) (state_in xs)
+pub over_field : {E : Type 0} (xs : List ℕ) (k most n : ℕ) {x : Refusal} (r : Result State Refusal)
+    → get_or (overs xs) k false ≡ ltb most n → 11 ≤ length xs → (x ≡ BadState) × ((e : E) × (n < most + 1 → ⊥)) → IsErrAnd r (λ y. y ≡ x) → told r ≡ outcome (state_refusal xs) (state_in xs)
 unfolding state_refusal out_of_range
 over_field xs k most n (Ok s) e l f g = absurd g
 over_field xs k most n (Err y) e l f g =
@@ -39,11 +40,28 @@ over_field xs k most n (Err y) e l f g =
 abbrev pub Fits : ℕ → ℕ → ℕ → Type 0
 Fits most n x = (n < most + 1) × (x ≡ n)
 
-pub all_fit : (xs : List ℕ) → 11 ≤ length xs → (a b c d e f g h i : ℕ) → Fits 65535 (get_or xs 5 0) a → Fits 65535 (get_or xs 6 0) b → Fits 65535 (get_or xs 7 0) c → Fits 255 (get_or xs 8 0) d → Fits 255 (get_or xs 9 0) e → Fits 255 (get_or xs 2 0) f → Fits 255 (get_or xs 3 0) g → Fits 255 (get_or xs 0 0) h → Fits 255 (get_or xs 1 0) i
-    → ◌≡◌ {A = Outcome State} (gives (record { symbols = h; cif_in_frame = i; channel = record { description = record { start_addr = a; sub_size = b; bitrate = c; protection_level = d; eep_option = e; is_eep = not (eqb (get_or xs 10 0) 0) }; ring_index = f; cif_count = g; frames_decoded = get_or xs 4 0 } })) (outcome (state_refusal xs) (state_in xs))
+at_most : (most : ℕ) {n x : ℕ} → Fits most n x → ltb most n ≡ false
+at_most most {n} f = le-ltb most n (let h = f.0 in omega arith)
+
+pub all_fit : (xs : List ℕ) → 11 ≤ length xs → (start size rate level option index count symbols in_frame : ℕ)
+    → Fits 65535 (get_or xs 5 0) start → Fits 65535 (get_or xs 6 0) size → Fits 65535 (get_or xs 7 0) rate → Fits 255 (get_or xs 8 0) level → Fits 255 (get_or xs 9 0) option
+    → Fits 255 (get_or xs 2 0) index → Fits 255 (get_or xs 3 0) count → Fits 255 (get_or xs 0 0) symbols → Fits 255 (get_or xs 1 0) in_frame
+    → ◌≡◌ {A = Outcome State}
+    (gives
+    (record {
+      symbols = symbols;
+      cif_in_frame = in_frame;
+      channel = record {
+        description = record { start_addr = start; sub_size = size; bitrate = rate; protection_level = level; eep_option = option; is_eep = not (eqb (get_or xs 10 0) 0) };
+        ring_index = index;
+        cif_count = count;
+        frames_decoded = get_or xs 4 0;
+      };
+    }))
+    (outcome (state_refusal xs) (state_in xs))
 unfolding state_refusal out_of_range state_in describes
-all_fit xs l a b c d e f g h i p q r s t u v w x =
-    rw (le-ltb _ _ l, le-ltb 255 (get_or xs 0 0) (omega arith), le-ltb 255 (get_or xs 1 0) (omega arith), le-ltb 255 (get_or xs 2 0) (omega arith), le-ltb 255 (get_or xs 3 0) (omega arith), le-ltb 65535 (get_or xs 5 0) (omega arith), le-ltb 65535 (get_or xs 6 0) (omega arith), le-ltb 65535 (get_or xs 7 0) (omega arith), le-ltb 255 (get_or xs 8 0) (omega arith), le-ltb 255 (get_or xs 9 0) (omega arith)) (cc)
+all_fit xs l _ _ _ _ _ _ _ _ _ start size rate level option index count symbols in_frame =
+    rw (le-ltb _ _ l, at_most 255 symbols, at_most 255 in_frame, at_most 255 index, at_most 255 count, at_most 65535 start, at_most 65535 size, at_most 65535 rate, at_most 255 level, at_most 255 option) (cc)
 
 -- ---- a state that was written and is read again
 
