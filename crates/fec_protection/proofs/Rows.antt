@@ -26,11 +26,6 @@ use Rattle.fec_protection.specs.Params.{params_of}
 use Rattle.fec_protection.specs.Refusals.{is_none, eep_row, uep_none}
 use Rattle.fec_protection.specs.Promises.{RowPromise}
 
-pub unit_other : (o : ℕ) → (o ≡ 0 → ⊥) → unit o ≡ 32
-unfolding unit
-unit_other zero n = absurd (n refl)
-unit_other (suc o) n = refl
-
 -- the code's levels are the standard's
 abbrev pub numbers : EepLevel → List ℕ
 numbers r = r.fold1 ∷ r.fold2 ∷ r.pi1 ∷ r.pi2 ∷ []

@@ -26,11 +26,6 @@ off_at no_flag k = refl
 off_at (flag_off n) zero = refl
 off_at (flag_off n) (suc k) = off_at n k
 
--- the last flag decides
-pub last-flag : (b : Bool) → b ≡ any_of (b ∷ [])
-last-flag true = refl
-last-flag false = refl
-
 -- a flag that the code tests before later ones
 pub flagged : (b : Bool) (bs : List Bool) {r rest : Bool} → r ≡ cond b true rest → rest ≡ any_of bs → r ≡ any_of (b ∷ bs)
 flagged b bs e f = e ∙ ap (cond b true) f ∙ go b
@@ -61,11 +56,6 @@ later (check_off c) = c
 pub held_not : (n : ℕ) (b : Bool) → check (suc n) b ≡ 0 → b ≡ false
 held_not n true e = absurd (omega (arith, e))
 held_not n false e = refl
-
--- a refusal that is given is the first
-pub first_nonzero : (n : ℕ) (ns : List ℕ) → (n ≡ 0 → ⊥) → n ≡ first_of (n ∷ ns)
-first_nonzero zero ns h = absurd (h refl)
-first_nonzero (suc n) ns h = refl
 
 -- a check that the code makes, before those that it makes later
 pub checked : {r later : ℕ} {b : Bool} (n : ℕ) (holds : Bool) (ns : List ℕ) → r ≡ cond b (suc n) later → b ≡ holds → later ≡ first_of ns → r ≡ first_of (check (suc n) holds ∷ ns)

@@ -4,27 +4,15 @@ use mathlib.Core.Path.{◌≡◌, refl, ap, ◌∙◌}
 use mathlib.Core.List.{List, [], ◌∷◌, ◌++◌}
 use Prim.Native.Nat.{ℕ, zero, suc}
 use native.Mathlib.Omega.{arith}
-use Rattle.refusal.specs.Outcome.{Outcome, gives, refuses, outcome, unless_refused, number_of, or_else, first_of}
-
-pub or_else_assoc : (k m n : ℕ) → or_else (or_else k m) n ≡ or_else k (or_else m n)
-or_else_assoc zero m n = refl
-or_else_assoc (suc k) m n = refl
+use Rattle.refusal.specs.Outcome.{gives, refuses, outcome, unless_refused, or_else, first_of}
 
 pub or_else-zero : (n : ℕ) → or_else n 0 ≡ n
 or_else-zero zero = refl
 or_else-zero (suc n) = refl
 
--- one that is given decides; else the other; and where the other is given, one of them is
-pub or_given : (n m : ℕ) → (n ≡ 0 → ⊥) → or_else n m ≡ n
-or_given zero m h = absurd (h refl)
-or_given (suc n) m h = refl
-
+-- where the first is none, the other decides
 pub or_other : (n m : ℕ) → n ≡ 0 → or_else n m ≡ m
 or_other n m z = ap (λ (k : ℕ). or_else k m) z
-
-pub or_either : (n m : ℕ) → (m ≡ 0 → ⊥) → or_else n m ≡ 0 → ⊥
-or_either zero m h z = h z
-or_either (suc n) m h z = omega (arith, z)
 
 -- the first of two lists of refusals
 pub first-append : (xs ys : List ℕ) → first_of (xs ++ ys) ≡ or_else (first_of xs) (first_of ys)
@@ -66,21 +54,9 @@ module _ {ℓ} {A : Type ℓ} where
       still zero k e = let z : ◌≡◌ {A = ℕ} 0 1 = cc in absurd (omega arith)
       still (suc n) k e = let z : k ≡ suc n = cc in ap refuses z
 
-  -- the number of an outcome
-  pub number_of_lem : (n : ℕ) (a : A) {o : Outcome A} → o ≡ outcome n a → number_of o ≡ n
-  number_of_lem n a e = ap number_of e ∙ go n
-    where
-      go : (n : ℕ) → number_of (outcome n a) ≡ n
-      go zero = refl
-      go (suc n) = refl
-
   -- what is written, where it is known whether the call is refused
   pub where_done : (n : ℕ) (a b : A) → n ≡ 0 → unless_refused n a b ≡ a
   where_done n a b z = ap (λ (k : ℕ). unless_refused k a b) z
-
-  pub where_refused : (n : ℕ) (a b : A) → (n ≡ 0 → ⊥) → unless_refused n a b ≡ b
-  where_refused zero a b h = absurd (h refl)
-  where_refused (suc n) a b h = refl
 
 -- what a promise says of the caller's buffers, by the number: all is done, or nothing is touched
 module _ {ℓ} (A B : Type ℓ) where

@@ -9,7 +9,7 @@ use Rattle.std.specs.Prelude.{Result, Ok, Err, IsErrAnd}
 use Rattle.refusal.specs.declared.Refusal.{Refusal}
 use Rattle.refusal.specs.declared.Refusal.TheVariants.{NoSuchOption, NoSuchLevel, RateTooLow, NoProfile, SizeDiffers, UnevenRate, BeyondCif, ShortBuffer, ShortSymbol, BadState, LongInput, ShortDirectory}
 use Rattle.refusal.specs.Outcome.{refuses, outcome, numbered, told}
-use Rattle.refusal.proofs.Laws.{given_number, given_value, refused-number}
+use Rattle.refusal.proofs.Laws.{given_number, given_value}
 
 -- the refusal of a number
 abbrev named : ℕ → Refusal
@@ -51,9 +51,6 @@ module _ {A : Type 0} where
 
   pub ok-value : (n : ℕ) (a : A) {r : Result A Refusal} {b : A} → told r ≡ outcome n a → r ≡ Ok b → b ≡ a
   ok-value n a {r} {b} e q = given_value n a b (sym (ap told q) ∙ e)
-
-  pub err-number : (n : ℕ) (a : A) {r : Result A Refusal} {x : Refusal} → told r ≡ outcome n a → r ≡ Err x → n ≡ numbered x
-  err-number n a {r} {x} e q = refused-number n a (numbered x) (sym (ap told q) ∙ e)
 
   -- the answer where nothing refuses
   pub is-ok : (r : Result A Refusal) (n : ℕ) (a : A) → told r ≡ outcome n a → n ≡ 0 → r ≡ Ok a

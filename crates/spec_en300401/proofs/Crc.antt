@@ -1,14 +1,11 @@
 -- Laws of the CRC register: it stays below 2^16, and goes on over more bits.
 -- Assumes nothing.
-use mathlib.Core.Path.{◌≡◌, refl, ap, ◌∙◌}
+use mathlib.Core.Path.{◌≡◌, refl}
 use mathlib.Core.List.{List, [], ◌∷◌, ◌++◌}
 use Prim.Native.Nat.{ℕ, ◌+◌, ◌*◌, ◌/◌, ◌%◌, ◌^◌, ◌<◌}
 use native.Mathlib.Omega.{arith}
 use lib.Bits.{xor_lt}
-use Rattle.laws.specs.Bits.{bits_of}
-use Rattle.spec_en300401.specs.Bytes.{bits_of_bytes}
 use Rattle.spec_en300401.specs.Crc.{generator, crc_step, crc_from}
-use Rattle.spec_en300401.proofs.Bytes.{bits-append, bits-one}
 
 pub step_lt : (r b : ℕ) → crc_step r b < 2 ^ 16
 unfolding crc_step
@@ -26,11 +23,3 @@ pub from-append : (r : ℕ) (xs bs : List ℕ) → crc_from r (xs ++ bs) ≡ crc
 unfolding crc_from
 from-append r [] bs = refl
 from-append r (x ∷ xs) bs = from-append (crc_step r x) xs bs
-
--- one bit more, and one byte more
-pub from-snoc : (r : ℕ) (xs : List ℕ) (b : ℕ) → crc_from r (xs ++ (b ∷ [])) ≡ crc_step (crc_from r xs) b
-unfolding crc_from
-from-snoc r xs b = from-append r xs (b ∷ [])
-
-pub from_byte : (r : ℕ) (ys : List ℕ) (y : ℕ) → crc_from r (bits_of_bytes (ys ++ (y ∷ []))) ≡ crc_from (crc_from r (bits_of_bytes ys)) (bits_of 8 y)
-from_byte r ys y = ap (crc_from r) (bits-append ys (y ∷ []) ∙ ap (λ (t : List ℕ). bits_of_bytes ys ++ t) (bits-one y)) ∙ from-append r (bits_of_bytes ys) (bits_of 8 y)

@@ -1,69 +1,21 @@
 -- The forward pass: the scores before each step are the survivors' less the total subtracted, and a step with its renormalising keeps that.
 -- Assumes nothing.
-use mathlib.Core.Path.{◌≡◌, refl, sym, ap, ◌∙◌, subst}
-use mathlib.Core.Bool.{Bool, true, false}
+use mathlib.Core.Path.{◌≡◌, sym, ap, ◌∙◌, subst}
 use mathlib.Core.List.{List}
 use Prim.Native.Nat.{ℕ, suc, ◌+◌, ◌/◌, ◌%◌, ◌<◌, ◌≤◌}
 use native.Mathlib.Omega.{arith}
-use native.Mathlib.Decide.{ℕ_discrete}
 use native.Mathlib.Numerals.{add-one}
 use lib.IntN.{ℤ, pos, nat_abs, ◌-ℤ◌, +ℤ_idr}
-use lib.Signed.{lt_z, ◌≤ℤ◌, ◌<ℤ◌, ≤ℤ_refl}
-use Rattle.laws.specs.Integers.{up, dn, pick_z}
+use lib.Signed.{◌≤ℤ◌, ◌<ℤ◌}
+use Rattle.laws.specs.Integers.{up, dn}
 use Rattle.laws.specs.Words.{pick_n, word_of}
-use Rattle.laws.proofs.Integers.{diff, abs_sum, parts_le, le_parts, parts_lt, parts_eq, lt_z_true, lt_z_false, ≤ℤ-trans}
+use Rattle.laws.proofs.Integers.{diff, abs_sum, parts_le, le_parts, parts_eq}
 use Rattle.laws.proofs.Words.{word_ext}
 use Rattle.spec_trellis.specs.Trellis.{branch, start_score, Top, none, kept, renewed, Softs}
-use Rattle.spec_trellis.specs.Program.{takes, acs, survivor, takes_at, Greatest, FirstGreatest, Renormalised, stays, falls, Running}
+use Rattle.spec_trellis.specs.Program.{takes, acs, survivor, takes_at, Greatest, Renormalised, stays, falls, Running}
 use Rattle.spec_trellis.proofs.Trellis.{branch-le}
 use Rattle.spec_trellis.proofs.TrellisProgram.{way_is, pick_lt, takes_shift, acs_shift, survivor_top}
 use Rattle.spec_trellis.proofs.TrellisSubtracted.{running-within}
-
--- ---- the greatest of some values
-
--- a bound on the first n values and on value n
-bound_next : (σ : ℕ → ℤ) (n : ℕ) (x : ℤ) → σ n ≤ℤ x → ((s : ℕ) → s < n → σ s ≤ℤ x) → (s : ℕ) → s < n + 1 → σ s ≤ℤ x
-bound_next σ n x h f s l = pick (ℕ_discrete s n)
-  where
-    pick : Dec (s ≡ n) → σ s ≤ℤ x
-    pick (yes e) = subst (λ (k : ℕ). σ k ≤ℤ x) (sym e) h
-    pick (no e) = f s (omega arith)
-
-pub greatest_next : (σ : ℕ → ℤ) (n : ℕ) (m : ℤ) → Greatest σ n m → Greatest σ (n + 1) (pick_z (lt_z m (σ n)) (σ n) m)
-greatest_next σ n m t = go (lt_z m (σ n)) refl
-  where
-    go : (b : Bool) → lt_z m (σ n) ≡ b → Greatest σ (n + 1) (pick_z b (σ n) m)
-    go true e =
-        record {
-          above = bound_next σ n (σ n) (≤ℤ_refl (σ n)) (λ k h. ≤ℤ-trans (t.above k h) (parts_le m (σ n) (omega (arith, lt_z_true m (σ n) e))));
-          place = n;
-          place_lt = omega arith;
-          is = refl;
-        }
-    go false e =
-        record {
-          above = bound_next σ n m (parts_le (σ n) m (omega (arith, lt_z_false m (σ n) e))) t.above;
-          place = t.place;
-          place_lt = omega (arith, t.place_lt);
-          is = t.is;
-        }
-
-pub first_next : (σ : ℕ → ℤ) (n p : ℕ) → FirstGreatest σ n p → FirstGreatest σ (n + 1) (pick_n (lt_z (σ p) (σ n)) n p)
-first_next σ n p t = go (lt_z (σ p) (σ n)) refl
-  where
-    go : (b : Bool) → lt_z (σ p) (σ n) ≡ b → FirstGreatest σ (n + 1) (pick_n b n p)
-    go true e =
-        record {
-          below = omega arith;
-          above = bound_next σ n (σ n) (≤ℤ_refl (σ n)) (λ k h. parts_le (σ k) (σ n) (omega (arith, le_parts (t.above k h), lt_z_true (σ p) (σ n) e)));
-          first = λ s l. parts_lt (σ s) (σ n) (omega (arith, le_parts (t.above s l), lt_z_true (σ p) (σ n) e));
-        }
-    go false e =
-        record {
-          below = omega (arith, t.below);
-          above = bound_next σ n (σ p) (parts_le (σ n) (σ p) (omega (arith, lt_z_false (σ p) (σ n) e))) t.above;
-          first = t.first;
-        }
 
 -- ---- the scores before step k
 
