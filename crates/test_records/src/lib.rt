@@ -2,7 +2,7 @@
 // and its bytes; compare/README.md has the kinds. What is read comes from outside, so a promise on it gives its bounds.
 #![tactic(auto)]
 
-ghost use Rattle.std.specs.Prelude.{◌≡◌, ◌≤◌, ◌<◌, get_or, IfSome};
+ghost use Rattle.std.specs.Prelude.{◌≡◌, ◌<◌, ℕ, List, Bool, get_or, IfSome};
 ghost use Rattle.test_records.specs.Records.{pair_at, word_of, description_of, Part};
 ghost use Rattle.test_records.specs.Tally.{counted, nothing_counted, Tallied};
 
@@ -134,10 +134,19 @@ impl Tally {
     }
 }
 
-// Every record: whether the answer is as recorded, the judge says by kind, input and answer.
-pub fn replay_all<R: Read, F: Fn(u8, &mut [u8], &[u8]) -> bool>(records: &mut R, judge: F) -> Tally
-    requires { F.IsAlwaysCallable judge }
-    ensures { Tallied (λ kind same. (input : _) × (answer : _) × (after : _) × F.post judge kind input answer same after) result }
+// What a replay holds against the recorded answers.
+pub trait Judge {
+    // What may be said of a kind, an input and a recorded answer.
+    ghost says: { Self → ℕ → List ℕ → List ℕ → Bool → Type 0 };
+
+    // Whether the answer on this input is as recorded; the input may be written over.
+    fn is_same(&self, kind: u8, input: &mut [u8], answer: &[u8]) -> bool
+        ensures { says self.now kind input.old answer.now result };
+}
+
+// Every record, counted as the judge says of it.
+pub fn replay_all<R: Read, J: Judge>(records: &mut R, judge: &J) -> Tally
+    ensures { Tallied (λ kind same. (input : _) × (answer : _) × J.says judge.now kind input answer same) result }
 {
     let mut tally = Tally::new();
     let mut input = [0; 65536];
@@ -149,7 +158,7 @@ pub fn replay_all<R: Read, F: Fn(u8, &mut [u8], &[u8]) -> bool>(records: &mut R,
         };
         let n = read_part(records, &mut input);
         let m = read_part(records, &mut answer);
-        let same = judge(kind, &mut input[..n], &answer[..m]);
+        let same = judge.is_same(kind, &mut input[..n], &answer[..m]);
         tally.count(kind, same);
     }
     tally

@@ -2,7 +2,10 @@
 // function, which answers are the same.
 #![tactic(auto)]
 
+ghost use Rattle.std.specs.Prelude.{◌≤◌, IsTrue};
+
 use refusal::Refusal;
+use test_records::Judge;
 
 fn disperses(input: &mut [u8], answer: &[u8]) -> bool {
     fec_dispersal::energy_dispersal(&mut *input);
@@ -36,20 +39,27 @@ fn has_sizes(input: &[u8], answer: &[u8]) -> bool {
         && is_size(fec_protection::depunctured_size(d), depunctured)
 }
 
-// Whether the function of this kind gives the recorded answer.
-fn is_same(kind: u8, input: &mut [u8], answer: &[u8]) -> bool {
-    match kind {
-        1 => disperses(input, answer),
-        2 => is_byte(fec_crc::fib_crc_valid(input), answer),
-        3 => is_byte(fec_crc::check_crc_bits(input), answer),
-        4 => judges(input, answer),
-        5 => has_sizes(input, answer),
-        _ => false,
+struct Replay;
+
+impl Judge for Replay {
+    // An answer is as recorded only where its kind is one of this program's.
+    ghost says = { λ _ kind _ _ same. IsTrue same → (1 ≤ kind) × (kind ≤ 5) };
+
+    // Whether the function of this kind gives the recorded answer.
+    fn is_same(&self, kind: u8, input: &mut [u8], answer: &[u8]) -> bool {
+        match kind {
+            1 => disperses(input, answer),
+            2 => is_byte(fec_crc::fib_crc_valid(input), answer),
+            3 => is_byte(fec_crc::check_crc_bits(input), answer),
+            4 => judges(input, answer),
+            5 => has_sizes(input, answer),
+            _ => false,
+        }
     }
 }
 
 fn main(rt: HostRuntime) {
-    let tally = test_records::replay_all(&mut rt.stdin(), is_same);
+    let tally = test_records::replay_all(&mut rt.stdin(), &Replay);
     tally.print(
         &rt,
         &[

@@ -2,6 +2,10 @@
 // buffers of a call have the lengths that four blocks need, with a value in each place that the call does not leave there.
 #![tactic(auto)]
 
+ghost use Rattle.std.specs.Prelude.{◌≡◌, IsTrue};
+
+use test_records::Judge;
+
 // Three lengths and then the values of three symbols; the FIBs recorded, and the rest of the output is as it was.
 fn processes(input: &[u8], recorded: &[u8]) -> bool {
     if input.len() < 6 || input.len() > 9222 {
@@ -35,12 +39,19 @@ fn processes(input: &[u8], recorded: &[u8]) -> bool {
     }
 }
 
-// Whether the function of this kind gives the recorded answer.
-fn is_same(kind: u8, input: &mut [u8], answer: &[u8]) -> bool {
-    kind == 10 && processes(input, answer)
+struct Replay;
+
+impl Judge for Replay {
+    // An answer is as recorded only where it is of this program's kind.
+    ghost says = { λ _ kind _ _ same. IsTrue same → kind ≡ 10 };
+
+    // Whether the function of this kind gives the recorded answer.
+    fn is_same(&self, kind: u8, input: &mut [u8], answer: &[u8]) -> bool {
+        kind == 10 && processes(input, answer)
+    }
 }
 
 fn main(rt: HostRuntime) {
-    let tally = test_records::replay_all(&mut rt.stdin(), is_same);
+    let tally = test_records::replay_all(&mut rt.stdin(), &Replay);
     tally.print(&rt, &[(10, "process_fic")]);
 }

@@ -3,8 +3,11 @@
 // lengths, with another value in each place.
 #![tactic(auto)]
 
+ghost use Rattle.std.specs.Prelude.{◌≡◌, IsTrue};
+
 use fec_protection::Description;
 use msc_handler::{Answer, Memory};
+use test_records::Judge;
 
 const SMALLEST: Description = Description {
     start_addr: 0,
@@ -60,12 +63,19 @@ fn receives(input: &[u8], recorded: &[u8]) -> bool {
     to_come.is_empty()
 }
 
-// Whether the functions of this kind give the recorded answer.
-fn is_same(kind: u8, input: &mut [u8], answer: &[u8]) -> bool {
-    kind == 11 && receives(input, answer)
+struct Replay;
+
+impl Judge for Replay {
+    // An answer is as recorded only where it is of this program's kind.
+    ghost says = { λ _ kind _ _ same. IsTrue same → kind ≡ 11 };
+
+    // Whether the functions of this kind give the recorded answer.
+    fn is_same(&self, kind: u8, input: &mut [u8], answer: &[u8]) -> bool {
+        kind == 11 && receives(input, answer)
+    }
 }
 
 fn main(rt: HostRuntime) {
-    let tally = test_records::replay_all(&mut rt.stdin(), is_same);
+    let tally = test_records::replay_all(&mut rt.stdin(), &Replay);
     tally.print(&rt, &[(11, "set_up and feed_symbol")]);
 }

@@ -2,8 +2,11 @@
 // answers are the same. The buffer for an answer has as many places as the Rust gave values, with another value in each.
 #![tactic(auto)]
 
+ghost use Rattle.std.specs.Prelude.{◌≤◌, IsTrue};
+
 use fec_viterbi::Score;
 use refusal::Refusal;
+use test_records::Judge;
 
 // Whether the values are those of the bytes.
 fn are_values(values: &[i8], bytes: &[u8]) -> bool {
@@ -68,19 +71,26 @@ fn decodes<F: FnOnce(&[i8], &mut [u64], &mut [u8]) -> Result<Score, Refusal>>(
     }
 }
 
-// Whether the function of this kind gives the recorded answer.
-fn is_same(kind: u8, input: &mut [u8], answer: &[u8]) -> bool {
-    match kind {
-        6 => depunctures_msc(input, answer),
-        7 => depunctures(input, answer, fec_depuncturing::depuncture_fic),
-        8 => decodes(input, answer, fec_viterbi::viterbi_decode_state0),
-        9 => decodes(input, answer, fec_viterbi::viterbi_decode_with_metric),
-        _ => false,
+struct Replay;
+
+impl Judge for Replay {
+    // An answer is as recorded only where its kind is one of this program's.
+    ghost says = { λ _ kind _ _ same. IsTrue same → (6 ≤ kind) × (kind ≤ 9) };
+
+    // Whether the function of this kind gives the recorded answer.
+    fn is_same(&self, kind: u8, input: &mut [u8], answer: &[u8]) -> bool {
+        match kind {
+            6 => depunctures_msc(input, answer),
+            7 => depunctures(input, answer, fec_depuncturing::depuncture_fic),
+            8 => decodes(input, answer, fec_viterbi::viterbi_decode_state0),
+            9 => decodes(input, answer, fec_viterbi::viterbi_decode_with_metric),
+            _ => false,
+        }
     }
 }
 
 fn main(rt: HostRuntime) {
-    let tally = test_records::replay_all(&mut rt.stdin(), is_same);
+    let tally = test_records::replay_all(&mut rt.stdin(), &Replay);
     tally.print(
         &rt,
         &[

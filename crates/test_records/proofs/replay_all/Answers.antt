@@ -7,7 +7,4 @@ pub loop-init : goal.loop-init
 loop-init g c = subst (Tallied _) (sym c.new-tally.ensures) nothing
 
 pub loop-preserved : goal.loop-preserved
-loop-preserved g c = subst (Tallied _) (sym c.count.ensures) (one _ _ _ c.loop.invariant (_, _, _, c.judge-same.ensures))
-
-pub returns : goal.returns
-returns g c = c.loop.invariant
+loop-preserved g c = subst (Tallied _) (sym c.count.ensures) (one _ _ _ c.loop.invariant (_, _, c.is_same-same.ensures))
