@@ -78,7 +78,7 @@ pub fn needed_size(d: Description, size: &mut [u64]) -> Result<(), Refusal>
     put([fec_protection::needed_size(d)? as u64], size)
 }
 
-// How many values they become when depunctured: 1 to 4, then 8.
+// How many values they become when depunctured: 1 to 4, then 8. C has a name for each of the two sizes.
 pub fn depunctured_size(d: Description, size: &mut [u64]) -> Result<(), Refusal>
     ensures { Looked d 1 (one mother_size) size.old size.new (number_of (told result)) }
 {

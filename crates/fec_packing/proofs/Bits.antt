@@ -5,7 +5,6 @@ use borrow.Author.Tests.{ne_eqb}
 use lib.Dec.{eqb}
 use lib.ListN.{length, get_or, take, drop, length-map, get_or-map}
 use lib.Pow.{pow_mono}
-use lib.Seq.{drop-drop}
 use mathlib.Core.Bool.{Bool, not}
 use mathlib.Core.List.{List, [], ◌∷◌, map}
 use mathlib.Core.Path.{◌≡◌, refl, sym, ap, ◌∙◌, subst}
@@ -17,7 +16,6 @@ use Rattle.laws.specs.Bits.{num_of, AreBits}
 use Rattle.spec_en300401.proofs.Bytes.{bytes-length, byte_at}
 use Rattle.spec_en300401.specs.Bytes.{bytes_of_bits}
 use Rattle.std.proofs.lemmas.List.{take-map, drop-map, map_more}
-use Rattle.std.specs.Simd.{first_chunks}
 
 pub as_bit-lt : (v : ℕ) → as_bit v < 2
 unfolding as_bit
@@ -68,12 +66,3 @@ pub bytes_of-at : (xs : List ℕ) (n : ℕ) → n < length xs / 8 → get_or (by
 unfolding bytes_of
 bytes_of-at xs n h =
     byte_at (map as_bit xs) n (subst (λ (m : ℕ). n < m / 8) (sym (length-map xs as_bit)) h) ∙ ap (λ (ys : List ℕ). num_of (take 8 ys)) (drop-map as_bit (8 * n) xs) ∙ ap num_of (take-map as_bit 8 (drop (8 * n) xs))
-
--- eight values at a time: piece j
-pub eight_at : (k : ℕ) (xs : List ℕ) (j : ℕ) → j < k → get_or (first_chunks 8 k xs) j [] ≡ take 8 (drop (8 * j) xs)
-eight_at zero xs j h = absurd (omega arith)
-eight_at (suc k) xs zero h = refl
-eight_at (suc k) xs (suc j) h = eight_at k (drop 8 xs) j (omega arith) ∙ ap (take 8) (drop-drop (8 * j) 8 xs) ∙ ap (λ (m : ℕ). take 8 (drop m xs)) (next j)
-  where
-    next : (j : ℕ) → 8 + 8 * j ≡ 8 * suc j
-    next j = omega arith

@@ -155,7 +155,7 @@ pub fn needed_size(d: Description) -> Result<usize, Refusal>
     Ok(kept_size(params))
 }
 
-// How many values they become, or the description's first refusal of 1 to 4.
+// How many values they become, or the description's first refusal of 1 to 4: a public name beside `needed_size`, over the same lookup.
 pub fn depunctured_size(d: Description) -> Result<usize, Refusal>
     ensures { SizePromise mother_size d result }
 {

@@ -7,9 +7,10 @@ use mathlib.Core.Logic.{inl, inr}
 use Prim.Native.Nat.{ℕ, zero, suc, ◌+◌, ◌*◌, ◌/◌, ◌%◌, ◌^◌, ◌<◌, ◌≤◌}
 use native.Mathlib.Nat.{pow-le-pow_right}
 use native.Mathlib.Omega.{arith}
-use lib.ListN.{length, get_or, take, drop}
-use lib.Seq.{get_or-take, get_or-drop, drop-drop}
+use lib.ListN.{length, get_or, drop}
+use lib.Seq.{get_or-take, get_or-drop}
 use Rattle.std.specs.Simd.{first_chunks}
+use Rattle.laws.proofs.Chunks.{chunk_at}
 use lib.IntN.{ℤ, pos, ◌+ℤ◌}
 use lib.Signed.{lt_z, ◌≤ℤ◌}
 use lib.Pow.{shl_exact}
@@ -102,11 +103,6 @@ bit_fits b t w h l = let most : 2 ^ (t + 1) ≤ 2 ^ 64 = pow-le-pow_right {n = 2
     go true m = omega (arith, pow_next t)
     go false m = omega (arith, pow_next t)
 
--- four values of a list of soft values that is cut into steps
-pub chunk_at : (xs : List ℤ) (m k : ℕ) (d : List ℤ) → k < m → get_or (first_chunks 4 m xs) k d ≡ take 4 (drop (4 * k) xs)
-chunk_at xs zero k d h = absurd (omega arith)
-chunk_at xs (suc m) zero d h = refl
-chunk_at xs (suc m) (suc k) d h = chunk_at (drop 4 xs) m k d (omega arith) ∙ ap (take 4) (drop-drop (4 * k) 4 xs ∙ ap (λ (n : ℕ). drop n xs) (omega arith))
-
+-- value g of step k of the soft values, cut into steps of four
 pub value_of_chunk : (xs : List ℤ) (m k : ℕ) (d : List ℤ) → k < m → (g : ℕ) → g < 4 → at (get_or (first_chunks 4 m xs) k d) g ≡ soft xs k g
-value_of_chunk xs m k d h g l = ap (λ (v : List ℤ). at v g) (chunk_at xs m k d h) ∙ get_or-take 4 (drop (4 * k) xs) g (pos 0) l ∙ get_or-drop (4 * k) xs g (pos 0)
+value_of_chunk xs m k d h g l = ap (λ (v : List ℤ). at v g) (chunk_at 4 m xs k d h) ∙ get_or-take 4 (drop (4 * k) xs) g (pos 0) l ∙ get_or-drop (4 * k) xs g (pos 0)

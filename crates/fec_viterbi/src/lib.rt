@@ -58,7 +58,8 @@ fn correlation(soft: [i8; 4], pattern: usize) -> i32
         + signed(pattern / 8 % 2, soft[3])
 }
 
-// All that a step can add: one correlation for each of the 16 patterns.
+// All that a step can add: one correlation for each of the 16 patterns. Filled in place, here and in `Patterns::new`: what `array::from_fn` promises does not
+// say what its closure captured.
 fn correlations(soft: [i8; 4]) -> [i32; 16]
     ensures by_pattern { (p : ℕ) → p < 16 → at result p ≡ correlation_of soft p }
     ensures small { Within 16 512 result }
@@ -174,7 +175,7 @@ fn forward(soft: &[i8], words: &mut [u64]) -> [i32; 64]
     scores
 }
 
-// The bits of the path that the words give, from its end backwards.
+// The bits of the path that the words give, from its end backwards; by index, as `forward` goes.
 fn trace_back(words: &[u64], end: usize, bits: &mut [u8])
     requires { (end < 64) × (length words.now ≡ length bits.old) }
     ensures { bits.new ≡ traced words.now (length words.now) end }
@@ -256,7 +257,7 @@ pub fn viterbi_decode_state0(
     decode(soft, words, bits, End::Zero)
 }
 
-// Decodes to the best path, whatever state it ends in.
+// Decodes to the best path, whatever state it ends in: the other public name over `decode`.
 pub fn viterbi_decode_with_metric(
     soft: &[i8],
     words: &mut [u64],

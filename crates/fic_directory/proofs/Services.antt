@@ -16,6 +16,7 @@ use lib.Seq.{sets, sets-eq, take-take, get_or-take, length-take-le}
 use Rattle.std.specs.Prelude.{Option as Answer, Some, None, MatchOption}
 use Rattle.std.specs.List.{IsSplitAt}
 use Rattle.std.specs.Simd.{first_chunks}
+use Rattle.laws.proofs.Chunks.{length-chunks}
 use Rattle.std.proofs.lemmas.List.{drop-take, set-append_left}
 use Rattle.laws.specs.Words.{pick_n}
 use Rattle.laws.proofs.Slices.{part-put}
@@ -154,10 +155,6 @@ unfolding component_word
 four_is n ws j e =
     (λ i. pair_is n ws (4 * j) e i + pair_is n ws (4 * j + 1) e i * 2 ^ 16 + pair_is n ws (4 * j + 2) e i * 2 ^ 32 + pair_is n ws (4 * j + 3) e i * 2 ^ 48)
 
-length_twos : (n : ℕ) (ws : List ℕ) → length (first_chunks 2 n ws) ≡ n
-length_twos zero ws = refl
-length_twos (suc n) ws = ap suc (length_twos n (drop 2 ws))
-
 -- the four numbers of an entry
 module _ (wide : Bool) (entry ws : List ℕ) (h key : ℕ) (pairs : List (List ℕ)) (w : IsEntry wide entry) (e : h ≡ sid_bytes wide) (front : ws ≡ take (length entry - (h + 1)) (drop (h + 1) entry)) (p : pairs ≡ first_chunks 2 (length ws / 2) ws) (k : key ≡ sid_key (service_in wide entry)) where
   components : ws ≡ take (component_bytes wide entry) (drop (sid_bytes wide + 1) entry)
@@ -171,7 +168,7 @@ module _ (wide : Bool) (entry ws : List ℕ) (h key : ℕ) (pairs : List (List �
       let f : ℕ = get_or entry (sid_bytes wide) 0 % 16 in
       let long : length ws ≡ 2 * f = ap (λ (xs : List ℕ). length xs) components ∙ simp (length-take, length-drop) (omega (arith, w.long)) in
       let half : length ws / 2 ≡ f = omega arith in
-      ap (λ (xss : List (List ℕ)). length xss) p ∙ length_twos (length ws / 2) ws ∙ half ∙ sym (length_pairs f ws long) ∙ ap (λ (xs : List ℕ). length (pairs_of xs)) components
+      ap (λ (xss : List (List ℕ)). length xss) p ∙ length-chunks 2 (length ws / 2) ws ∙ half ∙ sym (length_pairs f ws long) ∙ ap (λ (xs : List ℕ). length (pairs_of xs)) components
 
   word_is : (j : ℕ) → four_of pairs j ≡ component_word (service_in wide entry).components j
   unfolding service_in
@@ -187,7 +184,7 @@ module _ (wide : Bool) (entry ws : List ℕ) (h key : ℕ) (pairs : List (List �
   few =
       let f : ℕ = get_or entry (sid_bytes wide) 0 % 16 in
       let long : length ws ≡ 2 * f = ap (λ (xs : List ℕ). length xs) components ∙ simp (length-take, length-drop) (omega (arith, w.long)) in
-      omega (arith, ap (λ (xss : List (List ℕ)). length xss) p ∙ length_twos (length ws / 2) ws)
+      omega (arith, ap (λ (xss : List (List ℕ)). length xss) p ∙ length-chunks 2 (length ws / 2) ws)
 
   pub shifted : (w0 w1 w2 : ℕ) → w0 ≡ four_of pairs 0 → w1 ≡ four_of pairs 1 → w2 ≡ four_of pairs 2
       → (key + length pairs * 1099511627776 % 18446744073709551616 + 281474976710656) ∷ w0 ∷ w1 ∷ w2 ∷ [] ≡ service_words (service_in wide entry) (length (service_in wide entry).components)

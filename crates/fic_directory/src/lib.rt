@@ -203,6 +203,7 @@ fn enter_sub<'a>(rest: &'a [u8], subs: &mut [u64; 64]) -> &'a [u8]
     }
 }
 
+// Entries have lengths of their own, so what is left is handed on; no index is counted, here and below.
 fn read_subs(body: &[u8], subs: &mut [u64; 64])
     ensures { SubsRead body.now subs.old subs.new }
 {

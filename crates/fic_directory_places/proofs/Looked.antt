@@ -10,7 +10,7 @@ use native.Mathlib.Omega.{arith}
 use borrow.Author.Tests.{eq-eqb, le-ltb, ltb-true, ltb-false}
 use lib.Dec.{ltb}
 use lib.ListN.{length, get_or, replicate, take, drop, length-take, length-append, length-replicate, get_or-replicate, get_or-append, get_or-eq_default}
-use lib.Seq.{take-take, take-append_seam, drop-drop, get_or-take, get_or-drop, get_or-append-add, ext_get_or}
+use lib.Seq.{take-take, take-append_seam, get_or-take, get_or-drop, get_or-append-add, ext_get_or}
 use Rattle.std.specs.Prelude.{Option as Answer, Some, None, Ok, MatchOption, find, option_map}
 use Rattle.std.specs.List.{slice_get, ItemBy}
 use Rattle.std.proofs.lemmas.Bool.{cases_lt}
@@ -20,7 +20,7 @@ use Rattle.refusal.proofs.Laws.{given_by, given_number, given_value}
 use Rattle.fec_protection.specs.declared.Description.{Description}
 use Rattle.spec_en300401.specs.Directory.{places}
 use Rattle.std.specs.Simd.{first_chunks}
-use Rattle.std.proofs.lemmas.List.{get_or_default}
+use Rattle.laws.proofs.Chunks.{length-chunks, chunk_at}
 use denote.Bor.{Bor}
 use Rattle.std.specs.Array.{IsFromFnResultFrom, IsFromFnResult}
 use denote.Param.Members.{Mut, Called}
@@ -138,16 +138,6 @@ same_service xs ys i j e =
     (λ t. cond (flag_at (first t) 48) (some (record { wide = flag_at (first t) 32; sid = field (first t) 0 32; components = list_of (component_count (first t)) (component_at ys j) })) none)
     ∙ ap (λ (cs : List ℕ). cond (flag_at (get_or xs i 0) 48) (some (record { wide = flag_at (get_or xs i 0) 32; sid = field (get_or xs i 0) 0 32; components = cs })) none) others
 
--- numbers by fours
-length_fours : (k : ℕ) (xs : List ℕ) → length (first_chunks 4 k xs) ≡ k
-length_fours zero xs = refl
-length_fours (suc k) xs = ap suc (length_fours k (drop 4 xs))
-
-four_at : (k i : ℕ) (xs : List ℕ) → i < k → get_or (first_chunks 4 k xs) i [] ≡ take 4 (drop (4 * i) xs)
-four_at zero i xs h = absurd (omega arith)
-four_at (suc k) zero xs h = refl
-four_at (suc k) (suc i) xs h = four_at k i (drop 4 xs) (omega arith) ∙ ap (take 4) (drop-drop (4 * i) 4 xs ∙ ap (λ (n : ℕ). drop n xs) (omega arith))
-
 -- the service of a place below 64, and none of another
 pub service_found : (services : List ℕ) (place : ℕ) (fours : List (List ℕ)) (o : Answer (Bor (List ℕ))) (r : Answer ServiceEntry) → 256 ≤ length services → fours ≡ first_chunks 4 (length (take 256 services) / 4) (take 256 services) → ItemBy (λ (x : Bor (List ℕ)). x.now) fours place place o
     → MatchOption o (r ≡ None) (λ x. r ≡ service_of (service_at x.now 0)) → ServicePromise services place (Ok r)
@@ -158,13 +148,13 @@ service_found services place fours o r h f l m = record { answer = (ap gives (by
     fours_are = let many : length (take 256 services) / 4 ≡ 64 = omega (arith, length-take 256 services) in f ∙ ap (λ (n : ℕ). first_chunks 4 n (take 256 services)) many
 
     long : length fours ≡ 64
-    long = ap (λ (xss : List (List ℕ)). length xss) fours_are ∙ length_fours 64 (take 256 services)
+    long = ap (λ (xss : List (List ℕ)). length xss) fours_are ∙ length-chunks 4 64 (take 256 services)
 
     by : (o : Answer (Bor (List ℕ))) → ItemBy (λ (x : Bor (List ℕ)). x.now) fours place place o → MatchOption o (r ≡ None) (λ x. r ≡ service_of (service_at x.now 0)) → (place < 64) ⊎ (64 ≤ place) → r ≡ service_of (get_or (services_of services) place none)
     by None l m (inl k) = absurd (omega (arith, l.3, long))
     by None l m (inr k) = m ∙ ap service_of (sym (get_or-eq_default (services_of services) none (omega (arith, length-list_of places (λ (p : ℕ). service_at services (4 * p))))))
     by (Some x) l m (inl k) =
-        let now : x.now ≡ take 4 (drop (4 * place) (take 256 services)) = l.1 ∙ ap (λ (xss : List (List ℕ)). get_or xss place x.now) fours_are ∙ get_or_default (first_chunks 4 64 (take 256 services)) place x.now [] (omega (arith, length_fours 64 (take 256 services))) ∙ four_at 64 place (take 256 services) k in
+        let now : x.now ≡ take 4 (drop (4 * place) (take 256 services)) = l.1 ∙ ap (λ (xss : List (List ℕ)). get_or xss place x.now) fours_are ∙ chunk_at 4 64 (take 256 services) place x.now k in
         let same : service_at x.now 0 ≡ service_at services (4 * place) =
         same_service services x.now (4 * place) 0
         (λ j q. ap (λ (xs : List ℕ). get_or xs (0 + j) 0) now ∙ get_or-take 4 (drop (4 * place) (take 256 services)) (0 + j) 0 (omega arith) ∙ get_or-drop (4 * place) (take 256 services) (0 + j) 0 ∙ get_or-take 256 services (4 * place + (0 + j)) 0 (omega arith) ∙ ap (λ (n : ℕ). get_or services n 0) (omega arith)) in

@@ -17,6 +17,7 @@ pub struct ServiceEntry {
     // A flag beside the number: document 02 tells a number as it stands, so one that is not wide may have more than 16 bits.
     pub wide: bool,
     pub sid: u32,
+    // Fixed memory: twelve places, of which `components` gives those that there are.
     pub count: usize,
     pub words: [u16; 12],
 }
@@ -126,6 +127,7 @@ fn is_audio(word: u16) -> bool
     word >> 14 == 0 && word / 2 % 2 == 1
 }
 
+// A function of its own: the caller's proof knows what a chain finds by this clause alone.
 fn audio_word(words: &[u16]) -> Option<u16>
     ensures { result ≡ find primary_audio words.now }
 {

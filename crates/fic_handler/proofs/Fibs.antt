@@ -6,8 +6,7 @@ use mathlib.Core.List.{List, [], ◌++◌, append_assoc, append-nil}
 use Prim.Native.Nat.{ℕ, zero, suc, ◌+◌, ◌*◌, ◌<◌, ◌≤◌}
 use native.Mathlib.Omega.{arith}
 use native.Mathlib.Numerals.{add-one}
-use lib.ListN.{length, get_or, take, drop, length-append, length-take, length-drop}
-use Rattle.std.specs.Simd.{first_chunks}
+use lib.ListN.{length, take, drop, length-append, length-take, length-drop}
 use lib.Seq.{take_at, drop_at, drop-drop}
 use Rattle.laws.specs.Words.{pick_n}
 use Rattle.laws.proofs.Words.{bit_lt}
@@ -15,12 +14,6 @@ use Rattle.spec_en300401.specs.Bytes.{bytes_of_bits}
 use Rattle.spec_en300401.proofs.Bytes.{bytes-length}
 use Rattle.fic_handler.specs.Blocks.{fib_of, good, passed_bytes, count_of}
 use Rattle.fic_handler.specs.Code.{KeptFibs}
-
--- one of the chunks that a list is cut into
-pub chunk_at : {X : Type 0} (n k : ℕ) (xs : List X) (i : ℕ) → i < k → get_or (first_chunks n k xs) i [] ≡ take n (drop (n * i) xs)
-chunk_at n zero xs i h = absurd (omega arith)
-chunk_at {X} n (suc k) xs zero h = let e : 0 ≡ n * 0 = omega arith in ap (λ (m : ℕ). take n (drop m xs)) e
-chunk_at {X} n (suc k) xs (suc i) h = let e : n + n * i ≡ n * suc i = omega arith in chunk_at n k (drop n xs) i (omega arith) ∙ ap (take n) (drop-drop (n * i) n xs ∙ ap (λ (m : ℕ). drop m xs) e)
 
 pub fib-length : (bits : List ℕ) (j : ℕ) → length bits ≡ 768 → j < 3 → length (fib_of bits j) ≡ 256
 fib-length bits j e h = simp (length-take, length-drop) (omega arith)

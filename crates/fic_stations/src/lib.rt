@@ -61,6 +61,7 @@ fn is_primary(word: u16) -> bool
     word / 2 % 2 == 1
 }
 
+// A function of its own: the caller's proof knows what a chain finds by this clause alone.
 fn primary_word(words: &[u16]) -> Option<u16>
     ensures { result ≡ find is_primary words.now }
 {

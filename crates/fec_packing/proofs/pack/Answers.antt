@@ -12,7 +12,8 @@ use Rattle.refusal.proofs.Laws.{given_by}
 use Rattle.laws.proofs.Pasted.{pasted_next}
 use Rattle.fec_packing.specs.Bytes.{bytes_of, pack_refusal}
 use Rattle.fec_packing.proofs.Answers.{long_enough, packed-is}
-use Rattle.fec_packing.proofs.Bits.{number, eight_at, bytes_of-length, bytes_of-at}
+use Rattle.laws.proofs.Chunks.{chunk_at}
+use Rattle.fec_packing.proofs.Bits.{number, bytes_of-length, bytes_of-at}
 use Rattle.fec_packing.proofs.pack.Goals as goal
 
 pub loop-j-preserved : goal.loop-j-preserved
@@ -23,7 +24,7 @@ loop-j-preserved c =
     let e = c.byte_of.ensures in
     ap (λ (l : List ℕ). set l j c.byte_of.result) c.loop-j.invariant
     ∙ ap (λ (k : ℕ). set (paste old 0 (bytes_of bits) j) k c.byte_of.result) (sym (zero-add j))
-    ∙ pasted_next 0 old 0 (bytes_of bits) j c.byte_of.result (omega arith) (omega (arith, bytes_of-length bits, c.as_chunks.ensures.front_len)) (e ∙ ap number (ap (λ (l : List (List ℕ)). get_or l j []) c.as_chunks.ensures.front ∙ eight_at (length bits / 8) bits j (omega (arith, c.as_chunks.ensures.front_len))) ∙ sym (bytes_of-at bits j (omega (arith, c.as_chunks.ensures.front_len))))
+    ∙ pasted_next 0 old 0 (bytes_of bits) j c.byte_of.result (omega arith) (omega (arith, bytes_of-length bits, c.as_chunks.ensures.front_len)) (e ∙ ap number (ap (λ (l : List (List ℕ)). get_or l j []) c.as_chunks.ensures.front ∙ chunk_at 8 (length bits / 8) bits j [] (omega (arith, c.as_chunks.ensures.front_len))) ∙ sym (bytes_of-at bits j (omega (arith, c.as_chunks.ensures.front_len))))
 
 pub returns : goal.returns
 returns c =

@@ -12,7 +12,8 @@ use Rattle.spec_en300401.specs.Bytes.{bytes_of_bits}
 use Rattle.spec_en300401.specs.Crc.{fib_valid}
 use Rattle.fic_handler.specs.Blocks.{fib_of, passed_bytes, count_of}
 use Rattle.fic_handler.specs.Code.{KeptFibs}
-use Rattle.fic_handler.proofs.Fibs.{chunk_at, kept_next}
+use Rattle.laws.proofs.Chunks.{chunk_at}
+use Rattle.fic_handler.proofs.Fibs.{kept_next}
 use Rattle.fic_handler.proofs.keep_fibs.Goals as goal
 
 one_or_none : (t : Bool) → pick_n t 1 0 ≡ bool_byte t
@@ -20,7 +21,7 @@ one_or_none true = refl
 one_or_none false = refl
 
 this_fib : (bits : List ℕ) {each : List (List ℕ)} {j : ℕ} → length bits ≡ 768 → each ≡ first_chunks 256 (length bits / 256) bits → j < 3 → get_or each j [] ≡ fib_of bits j
-this_fib bits {each} {j} e front h = ap (λ (l : List (List ℕ)). get_or l j []) front ∙ chunk_at 256 (length bits / 256) bits j (omega arith)
+this_fib bits {each} {j} e front h = ap (λ (l : List (List ℕ)). get_or l j []) front ∙ chunk_at 256 (length bits / 256) bits j [] (omega arith)
 
 next : {bits old fibs new fib : List ℕ} {kept j k : ℕ} {t : Bool} → length bits ≡ 768 → j < 3 → 32 * kept ≤ length fibs → KeptFibs bits j old kept fibs
     → fib ≡ fib_of bits j → t ≡ fib_valid fib → k ≡ bool_byte t

@@ -13,7 +13,8 @@ use Rattle.fec_quality.specs.Figures.{nothing}
 use Rattle.fic_handler.specs.Blocks.{block_of, blocks_in, data_bits, written, Buffers, fic_buffers}
 use Rattle.fic_handler.specs.Code.{BlockProcessed}
 use Rattle.fic_handler.specs.Promise.{Processed}
-use Rattle.fic_handler.proofs.Fibs.{count-le, chunk_at}
+use Rattle.laws.proofs.Chunks.{chunk_at}
+use Rattle.fic_handler.proofs.Fibs.{count-le}
 use Rattle.fic_handler.proofs.Run.{Run, run_none, run_next, behind}
 use Rattle.fic_handler.proofs.process_blocks.Goals as goal
 
@@ -26,7 +27,7 @@ next : {xs : List ℤ} {b sum count : ℕ} {before after : Buffers} {passed : Li
     → BlockProcessed (get_or blocks b []) (fic_buffers after.depunctured after.words after.bits (take (length after.fibs - 32 * sum) (drop (32 * sum) after.fibs))) count q (fic_buffers dep ws bs new)
     → Run xs before (b + 1) (sum + count) (set passed b count) (set quality b q) (fic_buffers dep ws bs (put_mid (32 * sum) (length after.fibs - 32 * sum) after.fibs new))
 next {xs} {b} {sum} {count} {before} {after} {passed} {quality} {q} {blocks} {dep} {ws} {bs} {new} few there fits e r p =
-    let this : get_or blocks b [] ≡ block_of xs b = ap (λ (l : List (List ℤ)). get_or l b []) e ∙ chunk_at 2304 (blocks_in xs) xs b there in
+    let this : get_or blocks b [] ≡ block_of xs b = ap (λ (l : List (List ℤ)). get_or l b []) e ∙ chunk_at 2304 (blocks_in xs) xs b [] there in
     let one : BlockProcessed (block_of xs b) (behind after sum) count q (fic_buffers dep ws bs new) =
     subst₂ (λ (vs : List ℤ) (fs : List ℕ). BlockProcessed vs (fic_buffers after.depunctured after.words after.bits fs) count q (fic_buffers dep ws bs new)) this (tail_part (32 * sum) after.fibs fits) p in
     subst (λ (fs : List ℕ). Run xs before (b + 1) (sum + count) (set passed b count) (set quality b q) (fic_buffers dep ws bs fs)) (sym (tail_put (32 * sum) after.fibs fits new)) (run_next xs before b sum count passed quality after (fic_buffers dep ws bs new) q few r one)
