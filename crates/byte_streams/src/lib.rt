@@ -15,7 +15,7 @@ pub fn read_full<R: Read>(from: &mut R, buf: &mut [u8]) -> (usize, io::Result<()
     ensures bytes { Consumes (R.remaining from.old) (R.remaining from.new) (take result.0 buf.new) }
     ensures end { OnOk result.1 (result.0 < length buf.new → IsAtEnd (R.remaining from.new)) }
 {
-    // Not std's `read_exact`, which promises little after a failed read: how many bytes came, and which.
+    // Not std's `read_exact`, which promises little after a failed read. The count stands beside the error, since then too some bytes came.
     let mut done = 0;
     while done < buf.len() {
         match from.read(&mut buf[done..]) {

@@ -15,7 +15,7 @@ pub fn empty(subs: &mut [u64], services: &mut [u64]) -> Result<(), Refusal>
     fic_directory_places::empty(subs, services)
 }
 
-// Reads FIBs into the directory: 12, then 8 under five counts.
+// Reads FIBs into the directory: 12, then 8 under five counts, so the directory is looked at first.
 #[tactic(auto, unfolding(crate::specs::Calls::read_number, fic_directory_places::specs::Promises::directory_refusal))]
 pub fn read(
     fibs: &[u8],

@@ -27,7 +27,7 @@ fn next_value(values: &mut Iter<'_, i8>, keep: u8) -> i8
     }
 }
 
-// Fills a place at the front of `out` for each of `kept`.
+// Fills a place at the front of `out` for each of `kept`. By index: after a zip over `iter_mut` a proof knows none of the values that it wrote.
 fn fill(values: &mut Iter<'_, i8>, kept: &[u8], out: &mut [i8])
     requires { length kept.now ≤ length out.old }
     ensures { Filled (flags kept.now) (iter_rest values.old) out.old out.new (iter_rest values.new) }
@@ -37,7 +37,7 @@ fn fill(values: &mut Iter<'_, i8>, kept: &[u8], out: &mut [i8])
     }
 }
 
-// Fills a region: four sub-blocks of 32 for each block.
+// Fills a region: four sub-blocks of 32 for each block, by place: std says nothing of what a slice ends as whose chunks are written.
 fn fill_region(values: &mut Iter<'_, i8>, section: Section, out: &mut [i8])
     requires { (128 * section.blocks ≤ length out.old) × (0 < section.blocks → section.pi < 24) }
     ensures { Filled (region_mask (region section)) (iter_rest values.old) out.old out.new (iter_rest values.new) }

@@ -6,7 +6,7 @@ ghost use Rattle.spec_en300401.specs.Puncturing.{tail_mask};
 ghost use Rattle.spec_en300401.specs.Uep.{no_row, uep_table, uep_row};
 ghost use Rattle.fec_profiles.specs.Rows.{bits, vector_at, section_by, profile_row, found};
 
-// A region of a profile: an empty one's `pi` is 24, none of the 24.
+// A region of a profile: an empty one's `pi` is 24, none of the 24, since `feltcomet_profile` gives C that number.
 #[derive(Clone, Copy, Debug, PartialEq, Eq)]
 pub struct Section {
     pub blocks: usize,
@@ -137,8 +137,8 @@ const PI_TAIL: [u8; 24] = [
     1, 1, 0, 0, 1, 1, 0, 0, 1, 1, 0, 0, 1, 1, 0, 0, 1, 1, 0, 0, 1, 1, 0, 0,
 ];
 
-// Ten numbers for each profile: kbit/s, level, blocks and `pi` of the four regions. A static of numbers: a constant of structs is written out on the
-// stack at each use.
+// Ten numbers for each profile: kbit/s, level, blocks and `pi` of the four regions. A static, since a constant is written out on the stack at each use;
+// in rows of numbers, as the standard prints them: a row written as a struct is ten lines.
 static UEP_PROFILES: [[u16; 10]; 64] = [
     [32, 5, 3, 4, 17, 0, 4, 2, 1, 24],
     [32, 4, 3, 3, 18, 0, 10, 5, 4, 24],

@@ -14,6 +14,7 @@ use fec_profiles::Section;
 use refusal::Refusal;
 
 // A sub-channel's place, size, bit rate and protection, as they follow from FIG 0/1: units, units, kbit/s.
+// Option and level stay numbers, C's form: refusals 1 and 2 speak of those that an enum of the sets and levels would not have.
 #[derive(Clone, Copy, Debug, PartialEq, Eq)]
 pub struct Description {
     pub start_addr: u16,
@@ -42,7 +43,7 @@ struct EepLevel {
     pi2: usize,
 }
 
-// 1-A to 4-A, 1-B to 4-B: fold1, fold2, pi1 and pi2.
+// 1-A to 4-A, 1-B to 4-B: fold1, fold2, pi1 and pi2. A static, since a constant is written out on the stack at each use; as structs a row is six lines.
 static EEP_LEVELS: [[[usize; 4]; 4]; 2] = [
     [[6, 0, 23, 22], [2, 4, 13, 12], [6, 0, 7, 6], [4, 2, 2, 1]],
     [[24, 0, 9, 8], [24, 0, 5, 4], [24, 0, 3, 2], [24, 0, 1, 0]],
@@ -131,6 +132,7 @@ fn sent_in(section: Section) -> usize
     4 * (section.blocks * (9 + section.pi))
 }
 
+// The four by name, here and below: a sum over the array would need its bound as a `requires` on the list.
 fn kept_size(p: ProtectionParams) -> usize
     requires { Bounded p }
     ensures { result ≡ sent_by p + 12 }

@@ -7,6 +7,7 @@ ghost use Rattle.fec_quality.specs.Figures.{sum_abs, percent_of, measured, nothi
 
 use refusal::Refusal;
 
+// Two i32 and one f64: document 01's form.
 #[derive(Clone, Copy, Debug, Default, PartialEq)]
 pub struct Quality {
     pub metric: i32,
@@ -14,7 +15,7 @@ pub struct Quality {
     pub percent: f64,
 }
 
-// The sum of the absolute values, few enough that it fits.
+// The sum of the absolute values, few enough that it fits. A loop reads each value, so the proof knows its range; of a chain's it does not.
 fn sum_of(soft: &[i8]) -> u32
     requires { length soft.now ≤ 262147 }
     ensures same { result ≡ sum_abs soft.now }
@@ -27,6 +28,7 @@ fn sum_of(soft: &[i8]) -> u32
     sum
 }
 
+// Two exact conversions, then a division and a multiplication, each rounded once in that order: document 01's form.
 fn percent(metric: i32, sum: u32) -> f64
     ensures { result ≡ percent_of metric sum }
 {
@@ -52,7 +54,7 @@ pub fn measure(metric: i32, depunctured: &[i8]) -> Result<Quality, Refusal>
     })
 }
 
-// The record of an absent block: all zero.
+// The record of an absent block: all zero, which is the default under a public name (docs/PROMISES.md).
 pub fn none() -> Quality
     ensures { result ≡ nothing }
 {

@@ -231,7 +231,8 @@ fn best_path(soft: &[i8], words: &mut [u64], bits: &mut [u8], end: End) -> i32
     scores[state]
 }
 
-// Both decoders: the refusals in document 01's order, then as many elements of the words and the bits as there are steps.
+// Both decoders: the refusals in document 01's order, then as many elements of the words and the bits as there are steps. These stay two parameters, as
+// the public functions and C lend them.
 fn decode(soft: &[i8], words: &mut [u64], bits: &mut [u8], end: End) -> Result<Score, Refusal>
     ensures { Decoded (permitted end) soft.now words.old bits.old (told result) words.new bits.new }
 {

@@ -25,7 +25,7 @@ fn decode(soft: &[i8; 9216], fibs: &mut [u8; 384]) -> usize
     32 * fic.fibs
 }
 
-// Nothing says that an input ends.
+// A loop must be shown to end, and nothing says that an input does: hence the bound.
 fn run<R: Read, W: Write>(input: &mut R, output: &mut W) -> io::Result<()> {
     for _ in 0..u64::MAX {
         let mut bytes = [0; 9216];

@@ -32,6 +32,7 @@ const DATA: usize = 768;
 const FIB_BITS: usize = 8 * fec_crc::FIB_LENGTH;
 
 // What three symbols came to: FIBs passed in all and in each block, and the quality of each block; all zero for an absent block.
+// `quality` is four records in an array, document 01's form, and `passed` stands beside it as C is told it.
 #[derive(Clone, Copy, Debug, Default, PartialEq)]
 pub struct Fic {
     pub fibs: usize,
@@ -78,7 +79,7 @@ fn keep_fib(bits: &[u8; FIB_BITS], out: &mut [u8]) -> bool
     passed
 }
 
-// The three FIBs of a block: how many passed.
+// The three FIBs of a block: how many passed. The packer is lent the part from the next free 32-byte place, document 01's form.
 fn keep_fibs(bits: &[u8], fibs: &mut [u8]) -> usize
     requires bits_len { length bits.now ≡ 768 }
     requires room { 96 ≤ length fibs.old }

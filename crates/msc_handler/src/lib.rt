@@ -44,7 +44,8 @@ pub struct Memory<'a> {
     pub frame: &'a mut [u8],
 }
 
-// A field that is read while another is written is borrowed once more, so that it stays known.
+// A field that is read while another is written is borrowed once more, so that it stays known. That the buffers stay the caller's, `same`, is a clause of
+// each function: it speaks of before and after, which no invariant of the struct can.
 impl Memory<'_> {
     fn lengths(&self) -> Lengths
         ensures { result ≡ lengths_of (buffers_in self.now) }
@@ -125,7 +126,7 @@ fn own_slice(cif: &[i8], from: usize, to: usize) -> &[i8]
     &cif[from..to]
 }
 
-// Each value is read from its slot before slot x takes the new ones.
+// Each value is read from its slot before slot x takes the new ones. The ring is flat, since a slot's length is known only at run time.
 fn deinterleave(own: &[i8], ring: &mut [i8], x: usize, out: &mut [i8])
     requires { (x < 16) × (16 * length out.old ≤ length ring.old) × (length own.now ≡ length out.old) }
     ensures { (out.new ≡ read_out ring.old (length out.old) x) × (ring.new ≡ refilled ring.old (length out.old) x own.now) }
@@ -138,7 +139,7 @@ fn deinterleave(own: &[i8], ring: &mut [i8], x: usize, out: &mut [i8])
     ring[x * n..x * n + n].copy_from_slice(own);
 }
 
-// The decoder with a free end for EEP, or the one that ends in state 0 for UEP.
+// The decoder with a free end for EEP, or the one that ends in state 0 for UEP. A function of its own: after an `if` a proof loses what a `&mut` holds.
 fn decode(is_eep: bool, soft: &[i8], words: &mut [u64], bits: &mut [u8]) -> Result<Score, Refusal>
     ensures { Decoded (ends_of is_eep) soft.now words.old bits.old (told result) words.new bits.new }
 {

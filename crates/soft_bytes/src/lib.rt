@@ -4,6 +4,7 @@
 ghost use Rattle.std.specs.Prelude.{◌≡◌};
 ghost use Rattle.soft_bytes.specs.Soft.{soft_of, converted};
 
+// std's cast under a public name (docs/PROMISES.md), with the programs' rule for a byte as its promise.
 #[tactic(auto, unfolding(crate::specs::Soft::soft_of))]
 pub fn soft_of(byte: u8) -> i8
     ensures { result ≡ soft_of byte }

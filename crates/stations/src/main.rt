@@ -87,7 +87,7 @@ impl Directory {
         fic_directory::read_fibs(&fibs[..n], &mut self.subs, &mut self.services)
     }
 
-    // Enters what every frame says. Nothing says that an input ends.
+    // Enters what every frame says. A loop must be shown to end, and nothing says that an input does: hence the bound.
     fn read_all<R: Read>(&mut self, input: &mut R, recording: Recording) -> Reading {
         let mut reading = Reading::default();
         for _ in 0..u64::MAX {

@@ -151,7 +151,7 @@ pub fn replay_all<R: Read, J: Judge>(records: &mut R, judge: &J) -> Tally
     let mut tally = Tally::new();
     let mut input = [0; 65536];
     let mut answer = [0; 65536];
-    // Nothing says that an input ends.
+    // A loop must be shown to end, and nothing says that an input does: hence the bound.
     for _ in 0..u64::MAX {
         let Some(kind) = read_kind(records) else {
             break;
