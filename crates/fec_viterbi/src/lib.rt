@@ -58,8 +58,8 @@ fn correlation(soft: [i8; 4], pattern: usize) -> i32
         + signed(pattern / 8 % 2, soft[3])
 }
 
-// All that a step can add: one correlation for each of the 16 patterns. Filled in place, here and in `Patterns::new`: what `array::from_fn` promises does not
-// say what its closure captured.
+// All that a step can add: one correlation for each of the 16 patterns. Filled in place, here and in `Patterns::new`: of `array::from_fn` a proof has to
+// show, call by call, that the closure keeps what it captured.
 fn correlations(soft: [i8; 4]) -> [i32; 16]
     ensures by_pattern { (p : ℕ) → p < 16 → at result p ≡ correlation_of soft p }
     ensures small { Within 16 512 result }

@@ -45,7 +45,7 @@ impl Judge for Replay {
     // An answer is as recorded only where its kind is one of this program's.
     ghost says = { λ _ kind _ _ same. IsTrue same → (1 ≤ kind) × (kind ≤ 5) };
 
-    // Whether the function of this kind gives the recorded answer.
+    // Whether the function of this kind, a number of the file's form, gives the recorded answer.
     fn is_same(&self, kind: u8, input: &mut [u8], answer: &[u8]) -> bool {
         match kind {
             1 => disperses(input, answer),

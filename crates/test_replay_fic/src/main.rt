@@ -45,7 +45,7 @@ impl Judge for Replay {
     // An answer is as recorded only where it is of this program's kind.
     ghost says = { λ _ kind _ _ same. IsTrue same → kind ≡ 10 };
 
-    // Whether the function of this kind gives the recorded answer.
+    // Whether the function of this kind gives the recorded answer: the trait's method, for the one kind that this program knows.
     fn is_same(&self, kind: u8, input: &mut [u8], answer: &[u8]) -> bool {
         kind == 10 && processes(input, answer)
     }

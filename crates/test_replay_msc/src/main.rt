@@ -69,7 +69,7 @@ impl Judge for Replay {
     // An answer is as recorded only where it is of this program's kind.
     ghost says = { λ _ kind _ _ same. IsTrue same → kind ≡ 11 };
 
-    // Whether the functions of this kind give the recorded answer.
+    // Whether the functions of this kind give the recorded answer: the trait's method, for the one kind that this program knows.
     fn is_same(&self, kind: u8, input: &mut [u8], answer: &[u8]) -> bool {
         kind == 11 && receives(input, answer)
     }
