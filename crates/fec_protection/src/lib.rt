@@ -71,17 +71,20 @@ fn unit(option: u8) -> usize
     if option == 0 { 8 } else { 32 }
 }
 
-fn eep_params(bitrate: u16, level: u8, option: u8) -> Result<ProtectionParams, Refusal>
-    ensures { RowPromise (first_of (eep_row option level bitrate)) (eep_profile option level bitrate) result }
+fn eep_params(d: Description) -> Result<ProtectionParams, Refusal>
+    ensures { RowPromise
+        (first_of (eep_row d.eep_option d.protection_level d.bitrate))
+        (eep_profile d.eep_option d.protection_level d.bitrate)
+        result }
 {
-    if option > 1 {
+    if d.eep_option > 1 {
         return Err(Refusal::NoSuchOption);
     }
-    if level > 3 {
+    if d.protection_level > 3 {
         return Err(Refusal::NoSuchLevel);
     }
-    let row = eep_level(option, level);
-    let n = usize::from(bitrate) / unit(option);
+    let row = eep_level(d.eep_option, d.protection_level);
+    let n = usize::from(d.bitrate) / unit(d.eep_option);
     let first = row.fold1 * n;
     if first < 3 {
         return Err(Refusal::RateTooLow);
@@ -103,10 +106,10 @@ fn eep_params(bitrate: u16, level: u8, option: u8) -> Result<ProtectionParams, R
     })
 }
 
-fn uep_params(bitrate: u16, level: u8) -> Result<ProtectionParams, Refusal>
-    ensures { RowPromise (first_of (uep_none bitrate level)) (uep_profile bitrate level) result }
+fn uep_params(d: Description) -> Result<ProtectionParams, Refusal>
+    ensures { RowPromise (first_of (uep_none d.bitrate d.protection_level)) (uep_profile d.bitrate d.protection_level) result }
 {
-    let Some(row) = fec_profiles::uep_profile(bitrate, level) else {
+    let Some(row) = fec_profiles::uep_profile(d.bitrate, d.protection_level) else {
         return Err(Refusal::NoProfile);
     };
     let sections = row.sections;
@@ -118,9 +121,9 @@ pub fn protection_params(d: Description) -> Result<ProtectionParams, Refusal>
     ensures { RowPromise (row_refusal_of d) (profile_of d) result }
 {
     if d.is_eep {
-        eep_params(d.bitrate, d.protection_level, d.eep_option)
+        eep_params(d)
     } else {
-        uep_params(d.bitrate, d.protection_level)
+        uep_params(d)
     }
 }
 
@@ -165,38 +168,35 @@ pub fn depunctured_size(d: Description) -> Result<usize, Refusal>
     Ok(mother_size(params))
 }
 
-fn judge_place(start: u16, size: u16) -> Result<(), Refusal>
-    ensures { told result ≡ outcome (outside start size) tt }
+fn judge_place(d: Description) -> Result<(), Refusal>
+    ensures { told result ≡ outcome (outside d.start_addr d.sub_size) tt }
 {
-    if usize::from(start) + usize::from(size) > 864 {
+    if usize::from(d.start_addr) + usize::from(d.sub_size) > 864 {
         return Err(Refusal::BeyondCif);
     }
     Ok(())
 }
 
-fn judge_eep(option: u8, bitrate: u16, start: u16, size: u16, needed: usize) -> Result<(), Refusal>
-    ensures { told result ≡ outcome (first_of (eep_shape option bitrate start size needed)) tt }
+fn judge_eep(d: Description, needed: usize) -> Result<(), Refusal>
+    ensures { told result ≡ outcome (first_of (eep_shape d.eep_option d.bitrate d.start_addr d.sub_size needed)) tt }
 {
-    if 64 * usize::from(size) != needed {
+    if 64 * usize::from(d.sub_size) != needed {
         return Err(Refusal::SizeDiffers);
     }
-    if usize::from(bitrate) % unit(option) != 0 {
+    if usize::from(d.bitrate) % unit(d.eep_option) != 0 {
         return Err(Refusal::UnevenRate);
     }
-    judge_place(start, size)
+    judge_place(d)
 }
 
-fn judge_uep(start: u16, size: u16, needed: usize) -> Result<(), Refusal>
-    ensures { told result ≡ outcome (first_of (uep_shape start size needed)) tt }
+fn judge_uep(d: Description, needed: usize) -> Result<(), Refusal>
+    ensures { told result ≡ outcome (first_of (uep_shape d.start_addr d.sub_size needed)) tt }
 {
-    let have = 64 * usize::from(size);
-    if have < needed {
+    let have = 64 * usize::from(d.sub_size);
+    if have < needed || have - needed > 8 {
         return Err(Refusal::SizeDiffers);
     }
-    if have - needed > 8 {
-        return Err(Refusal::SizeDiffers);
-    }
-    judge_place(start, size)
+    judge_place(d)
 }
 
 // The description's first refusal of 1 to 7.
@@ -205,8 +205,8 @@ pub fn judge(d: Description) -> Result<(), Refusal>
 {
     let needed = needed_size(d)?;
     if d.is_eep {
-        judge_eep(d.eep_option, d.bitrate, d.start_addr, d.sub_size, needed)
+        judge_eep(d, needed)
     } else {
-        judge_uep(d.start_addr, d.sub_size, needed)
+        judge_uep(d, needed)
     }
 }

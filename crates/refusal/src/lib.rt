@@ -9,18 +9,18 @@ use std::fmt;
 
 #[derive(Clone, Copy, Debug, PartialEq, Eq, Hash)]
 pub enum Refusal {
-    NoSuchOption,
-    NoSuchLevel,
-    RateTooLow,
-    NoProfile,
-    SizeDiffers,
-    UnevenRate,
-    BeyondCif,
-    ShortBuffer,
-    ShortSymbol,
-    BadState,
-    LongInput,
-    ShortDirectory,
+    NoSuchOption = 1,
+    NoSuchLevel = 2,
+    RateTooLow = 3,
+    NoProfile = 4,
+    SizeDiffers = 5,
+    UnevenRate = 6,
+    BeyondCif = 7,
+    ShortBuffer = 8,
+    ShortSymbol = 9,
+    BadState = 10,
+    LongInput = 11,
+    ShortDirectory = 12,
 }
 
 impl Refusal {
@@ -28,20 +28,7 @@ impl Refusal {
     pub fn number(self) -> u8
         ensures { result ≡ numbered self }
     {
-        match self {
-            Refusal::NoSuchOption => 1,
-            Refusal::NoSuchLevel => 2,
-            Refusal::RateTooLow => 3,
-            Refusal::NoProfile => 4,
-            Refusal::SizeDiffers => 5,
-            Refusal::UnevenRate => 6,
-            Refusal::BeyondCif => 7,
-            Refusal::ShortBuffer => 8,
-            Refusal::ShortSymbol => 9,
-            Refusal::BadState => 10,
-            Refusal::LongInput => 11,
-            Refusal::ShortDirectory => 12,
-        }
+        self as u8
     }
 }
 

@@ -110,10 +110,9 @@ impl Tally {
         }
     }
 
-    pub fn count(&mut self, kind: u8, same: bool)
+    pub fn count(&mut self, kind: usize, same: bool)
         ensures { self.new ≡ counted self.old kind same }
     {
-        let kind = usize::from(kind);
         if kind < 16 {
             let count = &mut self.counts[kind];
             if same {
@@ -159,7 +158,7 @@ pub fn replay_all<R: Read, J: Judge>(records: &mut R, judge: &J) -> Tally
         let n = read_part(records, &mut input);
         let m = read_part(records, &mut answer);
         let same = judge.is_same(kind, &mut input[..n], &answer[..m]);
-        tally.count(kind, same);
+        tally.count(usize::from(kind), same);
     }
     tally
 }
