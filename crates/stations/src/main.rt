@@ -199,19 +199,27 @@ fn print_service(rt: &impl Print, directory: &Directory, service: ServiceEntry) 
     };
 }
 
-// A line that cannot be written is passed over.
-fn print_list(rt: &impl Print, directory: &Directory, reading: Reading) {
+// A line that cannot be written is passed over, here and below.
+fn print_services(rt: &impl Print, directory: &Directory) {
     for place in 0..64 {
         if let Some(service) = directory.service(place) {
             print_service(rt, directory, service);
         }
     }
+}
+
+fn print_without_service(rt: &impl Print, directory: &Directory) {
     for id in 0..64 {
         let sub_channel = directory.sub_channel(id);
         if sub_channel.description.is_some() && !directory.is_in_use(id) {
             let _ = println!(rt; "no service, {sub_channel}");
         }
     }
+}
+
+fn print_list(rt: &impl Print, directory: &Directory, reading: Reading) {
+    print_services(rt, directory);
+    print_without_service(rt, directory);
     let _ = println!(rt; "{}", Summary(reading));
     // Services that left the air keep their places, so a long recording may fill them.
     if reading.left_out > 0 {

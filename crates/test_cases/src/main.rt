@@ -126,7 +126,7 @@ fn uep(level: u8, bitrate: u16, size: u16) -> Description {
     }
 }
 
-fn main(rt: HostRuntime) {
+fn print_steps(rt: &impl Print) {
     let steps: [(&str, End, &[i8]); 9] = [
         ("1", End::State0, &[]),
         ("1", End::Free, &[]),
@@ -139,27 +139,12 @@ fn main(rt: HostRuntime) {
         ("7, four zeros", End::Free, &[0; 4]),
     ];
     for (name, end, soft) in steps {
-        print_step(&rt, name, end, soft);
+        print_step(rt, name, end, soft);
     }
-    let mut bits = [0; 16];
-    fec_dispersal::energy_dispersal(&mut bits);
-    let dispersed = Bits(&bits);
-    let _ = println!(rt; "8, 16 zeros dispersed: {dispersed}");
-    for (name, d) in [
-        (
-            "9, EEP option 0 level 3, 8 kbit/s, start 860",
-            eep(3, 8, 860, 4),
-        ),
-        (
-            "10, EEP option 0 level 3, 8 kbit/s, start 861",
-            eep(3, 8, 861, 4),
-        ),
-        ("11, UEP 384 level 1", uep(1, 384, 416)),
-        ("12, UEP 384 level 1", uep(1, 384, 417)),
-    ] {
-        print_judged(&rt, name, d);
-    }
-    // 780 of -128, and behind them this value; what is subtracted shows from the 196th step on.
+}
+
+// 780 of -128, and behind them this value; what is subtracted shows from the 196th step on.
+fn print_long(rt: &impl Print) {
     for (name, n, last) in [
         ("780 of -128", 780, -128),
         ("784 of -128", 784, -128),
@@ -169,15 +154,46 @@ fn main(rt: HostRuntime) {
     ] {
         let mut soft = [-128; 788];
         soft[780..].fill(last);
-        print_metrics(&rt, name, &soft[..n.min(788)]);
+        print_metrics(rt, name, &soft[..n.min(788)]);
     }
-    for (name, d) in [
-        ("UEP 32 level 1", uep(1, 32, 35)),
-        ("EEP option 0 level 1, 8 kbit/s", eep(1, 8, 0, 8)),
-        ("EEP option 0 level 1, 16 kbit/s", eep(1, 16, 0, 16)),
-    ] {
-        print_judged(&rt, name, d);
+}
+
+fn print_all_judged(rt: &impl Print, cases: &[(&str, Description)]) {
+    for (name, d) in cases {
+        print_judged(rt, name, *d);
     }
+}
+
+fn main(rt: HostRuntime) {
+    print_steps(&rt);
+    let mut bits = [0; 16];
+    fec_dispersal::energy_dispersal(&mut bits);
+    let dispersed = Bits(&bits);
+    let _ = println!(rt; "8, 16 zeros dispersed: {dispersed}");
+    print_all_judged(
+        &rt,
+        &[
+            (
+                "9, EEP option 0 level 3, 8 kbit/s, start 860",
+                eep(3, 8, 860, 4),
+            ),
+            (
+                "10, EEP option 0 level 3, 8 kbit/s, start 861",
+                eep(3, 8, 861, 4),
+            ),
+            ("11, UEP 384 level 1", uep(1, 384, 416)),
+            ("12, UEP 384 level 1", uep(1, 384, 417)),
+        ],
+    );
+    print_long(&rt);
+    print_all_judged(
+        &rt,
+        &[
+            ("UEP 32 level 1", uep(1, 32, 35)),
+            ("EEP option 0 level 1, 8 kbit/s", eep(1, 8, 0, 8)),
+            ("EEP option 0 level 1, 16 kbit/s", eep(1, 16, 0, 16)),
+        ],
+    );
     let held = held();
     let _ = println!(rt; "branch outputs: {held} of 512 are the rule's");
 }

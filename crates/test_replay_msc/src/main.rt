@@ -18,6 +18,18 @@ const SMALLEST: Description = Description {
     is_eep: true,
 };
 
+// What of the recorded frames is still to come after a symbol; none where it gave another frame, or was refused.
+fn still_to_come<'a>(answer: Answer, frame: &[u8; 24], to_come: &'a [u8]) -> Option<&'a [u8]> {
+    match answer {
+        Answer::Waiting => Some(to_come),
+        Answer::Frame(_, _) => match to_come.split_at_checked(24) {
+            Some((next, rest)) if next == frame.as_slice() => Some(rest),
+            _ => None,
+        },
+        Answer::Refused(_) => None,
+    }
+}
+
 // The values of each CIF since set-up, and the frames in order.
 fn receives(input: &[u8], recorded: &[u8]) -> bool {
     if input.len() > 65536 || input.len() % 256 != 0 {
@@ -50,14 +62,10 @@ fn receives(input: &[u8], recorded: &[u8]) -> bool {
             };
             let fed = msc_handler::feed_symbol(state, &soft, &mut memory);
             state = fed.state;
-            match fed.answer {
-                Answer::Waiting => {}
-                Answer::Frame(_, _) => match to_come.split_at_checked(24) {
-                    Some((next, rest)) if next == frame.as_slice() => to_come = rest,
-                    _ => return false,
-                },
-                Answer::Refused(_) => return false,
-            }
+            let Some(rest) = still_to_come(fed.answer, &frame, to_come) else {
+                return false;
+            };
+            to_come = rest;
         }
     }
     to_come.is_empty()
