@@ -1,6 +1,7 @@
 /* feltcomet: a proved DAB channel decoder (ETSI EN 300 401, mode I), for C and, by the same declarations, for Rust.
  *
- * Link crates/feltcomet/out/libfeltcomet.a, which `rt lib` in crates/feltcomet proves and writes.
+ * Link crates/feltcomet/out/libfeltcomet.a, which `rt lib` in crates/feltcomet proves and writes. It needs memcpy and memset, and no other
+ * function.
  *
  * Every function takes every input, judges it itself and returns. A slice is a pointer and then a length in elements, named after it; a
  * length of 0 may go with any pointer that is not null. The caller's buffers must not overlap each other: the proofs are of a language in

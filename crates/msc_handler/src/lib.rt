@@ -109,12 +109,15 @@ impl Memory<'_> {
 // Slot x + DELAYS[i % 16], modulo 16, is the one that value i is read from.
 const DELAYS: [usize; 16] = [0, 8, 4, 12, 2, 10, 6, 14, 1, 9, 5, 13, 3, 11, 7, 15];
 
-// Copies a symbol's first 3,072 values to their place.
+// Copies a symbol's first 3,072 values to their place. By index, here and below: with `copy_from_slice` the library for C would need a memmove of whoever
+// links it.
 fn store(soft: &[i8], cif: &mut [i8], from: usize)
     requires { (3072 ≤ length soft.now) × (from + 3072 ≤ length cif.old) }
     ensures { cif.new ≡ paste cif.old from soft.now 3072 }
 {
-    cif[from..from + SYMBOL_VALUES].copy_from_slice(&soft[..SYMBOL_VALUES]);
+    for i in 0..SYMBOL_VALUES {
+        cif[from + i] = soft[i];
+    }
 }
 
 // The sub-channel's own slice of the CIF, as a part of the store: document 01's form.
@@ -136,7 +139,9 @@ fn deinterleave(own: &[i8], ring: &mut [i8], x: usize, out: &mut [i8])
         let slot = (x + DELAYS[i % 16]) % 16;
         *read = ring[slot * n + i];
     }
-    ring[x * n..x * n + n].copy_from_slice(own);
+    for (k, value) in own.iter().enumerate() {
+        ring[x * n + k] = *value;
+    }
 }
 
 // The decoder with a free end for EEP, or the one that ends in state 0 for UEP. A function of its own: after an `if` a proof loses what a `&mut` holds.

@@ -1,16 +1,20 @@
-use Rattle.std.proofs.Common.{◌≡◌, ◌+◌, ◌++◌, length, take, drop, ap, ◌∙◌, sym, arith, length-drop, List, ℤ}
-use Rattle.std.proofs.Math.Seq.{length-take-le, take_all}
-use Rattle.std.proofs.lemmas.Slice.{put_mid-paste}
+-- Turn by turn one value more of the part is replaced.
+use Rattle.std.proofs.Common.{rules, ◌≡◌, ap, ◌∙◌, ℕ, ◌+◌, List, ℤ, pos, get_or, set, refl, SFits, w8, to_z-of_z, arith}
+use Rattle.std.proofs.Math.Seq.{paste}
+use Rattle.laws.proofs.Pasted.{pasted_next}
 use Rattle.msc_handler.proofs.store.Goals as goal
 
-pub copy_from_slice-requires : goal.copy_from_slice-requires
-copy_from_slice-requires c =
-    length-take-le _ (drop c.args.from c.args.cif.now) (omega (arith, length-drop c.args.from c.args.cif.now))
-    ∙ omega (arith, length-take-le 3072 c.args.soft.now (omega arith))
+pub loop-i-preserved : goal.loop-i-preserved
+loop-i-preserved c =
+    let i = c.loop-i.i in
+    let soft = c.args.soft.now in
+    let from = c.args.from in
+    let fits : SFits w8 (get_or soft i (pos 0)) = search rules in
+    rw (to_z-of_z fits)
+    (ap (λ (l : List ℤ). set l (from + i) (get_or soft i (pos 0))) c.loop-i.invariant
+    ∙ pasted_next (pos 0) c.args.cif.now from soft i (get_or soft i (pos 0)) (omega arith) (omega arith) refl)
 
 pub returns : goal.returns
 returns c =
-    let part = take 3072 c.args.soft.now in
-    let long : length part ≡ 3072 = length-take-le 3072 c.args.soft.now (omega arith) in
-    put_mid-paste c.args.from _ c.args.cif.now _ part 3072 c.copy_from_slice.ensures.after (omega arith) (sym long)
-    ∙ ap (λ (r : List ℤ). take c.args.from c.args.cif.now ++ r ++ drop (c.args.from + 3072) c.args.cif.now) (take_all 3072 part (omega arith))
+    let all : c.loop-i.i ≡ 3072 = omega arith in
+    c.loop-i.invariant ∙ ap (λ (n : ℕ). paste c.args.cif.now c.args.from c.args.soft.now n) all
