@@ -1,8 +1,8 @@
 -- The blocks done so far, and that one more block keeps what is said of them.
 -- Assumes nothing.
-use mathlib.Core.Path.{◌≡◌, refl, sym, ap, ap₂, ◌∙◌, subst}
+use mathlib.Core.Path.{◌≡◌, refl, sym, ap, ap₂, ◌∙◌, subst, subst₂}
 use mathlib.Core.Bool.{Bool, cond}
-use mathlib.Core.List.{List, [], ◌++◌, append_assoc}
+use mathlib.Core.List.{List, [], ◌∷◌, ◌++◌, append_assoc}
 use Prim.Native.Nat.{ℕ, zero, suc, ◌+◌, ◌*◌, ◌<◌, ◌≤◌}
 use native.Mathlib.Omega.{arith}
 use native.Mathlib.Decide.{ℕ_discrete, dec_lt}
@@ -11,6 +11,7 @@ use native.Mathlib.Numerals.{add-one}
 use borrow.Author.Tests.{lt-ltb, le-ltb, eq-eqb, ne_eqb}
 use lib.Dec.{eqb, ltb}
 use lib.IntN.{ℤ, pos}
+use lib.Ieee.{binary64, of_bits}
 use lib.ListN.{length, get_or, set, take, drop, length-set, length-append, length-drop}
 use lib.Seq.{ext_get_or, take_at, drop_at, drop-drop, get_or-set_same, get_or-set_other}
 use Rattle.laws.specs.Lists.{list_from}
@@ -18,9 +19,11 @@ use Rattle.laws.proofs.Lists.{length-list_of, list_of-at}
 use Rattle.fec_quality.specs.declared.Quality.{Quality}
 use Rattle.fec_quality.specs.Figures.{quality_of, nothing}
 use Rattle.fec_viterbi.proofs.Result.{decoded-length}
-use Rattle.fic_handler.specs.Blocks.{block_of, depunctured_block, data_bits, count_of, passed_bytes, Block, IsBlock, Buffers, fic_buffers, written, total}
+use Rattle.fic_handler.specs.Blocks.{block_of, depunctured_block, data_bits, count_of, passed_bytes, Block, IsBlock, Buffers, fic_buffers, blocks_in, written, total}
 use Rattle.fic_handler.specs.Code.{BlockProcessed}
-use Rattle.fic_handler.specs.Promise.{four, work_after}
+use Rattle.fic_handler.specs.declared.Fic.{Fic}
+use Rattle.std.specs.Array.{AllOfLen}
+use Rattle.fic_handler.specs.Promise.{four, work_after, Processed}
 use Rattle.fic_handler.proofs.Fibs.{count-le, passed_length}
 use Rattle.fic_handler.proofs.Blocks.{restored_length, data_length}
 
@@ -218,3 +221,42 @@ module _ (xs : List ℤ) (before : Buffers) (n sum count : ℕ) (counts : List �
             ∙ ap (λ (m : ℕ). (work_after xs blocks m before).bits) (sym (add-one n));
         fibs_are = next_fibs;
       }
+
+-- after the last block
+pub whole_run : {xs : List ℤ} {n b sum : ℕ} {before after : Buffers} {passed : List ℕ} {quality : List Quality} → b ≡ n → Run xs before b sum passed quality after → Processed xs n before (record { fibs = sum; passed = passed; quality = quality }) after
+whole_run {xs} {n} {b} {sum} {before} {after} {passed} {quality} same r = subst (λ (m : ℕ). Processed xs m before (record { fibs = sum; passed = passed; quality = quality }) after) same made
+  where
+    made : Processed xs b before (record { fibs = sum; passed = passed; quality = quality }) after
+    made =
+        record {
+          block = r.block;
+          each = r.each;
+          answer = r.sum_is;
+          passed = r.counts_are;
+          quality = r.qualities_are;
+          depunctured = r.depunctured_are;
+          words = r.words_are;
+          bits = r.bits_are;
+          fibs = r.fibs_are ∙ ap (λ (m : ℕ). written r.block b ++ drop (32 * m) before.fibs) r.sum_is;
+        }
+
+pub no_percent : of_bits binary64 0 ≡ nothing.percent
+unfolding of_bits
+no_percent = refl
+
+-- an array of four that are each x
+same_at : {A : Type 0} (x : A) (i : ℕ) → get_or (x ∷ x ∷ x ∷ x ∷ []) i x ≡ x
+same_at x zero = refl
+same_at x (suc zero) = refl
+same_at x (suc (suc zero)) = refl
+same_at x (suc (suc (suc zero))) = refl
+same_at x (suc (suc (suc (suc i)))) = refl
+
+pub four_same : {A : Type 0} {P : A → Type 0} {xs : List A} (x : A) → ((y : A) → P y → y ≡ x) → AllOfLen P xs 4 → xs ≡ x ∷ x ∷ x ∷ x ∷ []
+four_same {xs = xs} x one h = ext_get_or x xs (x ∷ x ∷ x ∷ x ∷ []) h.long (λ i l. one _ (h.at i x (omega (arith, h.long))) ∙ sym (same_at x i))
+
+-- no whole block: nothing is changed
+pub no_block : {xs : List ℤ} {l after : Buffers} {fic : Fic} → length xs < 2304 → after ≡ l → fic.fibs ≡ 0 → fic.passed ≡ four 0 (λ (b : ℕ). 0) 0 → fic.quality ≡ four 0 (λ (b : ℕ). nothing) nothing → Processed xs (blocks_in xs) l fic after
+no_block {xs} {l} {after} {fic} short same e p q =
+    let none : 0 ≡ blocks_in xs = omega arith in
+    whole_run none (subst₂ (λ (n : ℕ) (a : Buffers). Run xs l 0 n fic.passed fic.quality a) (sym e) (sym same) (run_none xs l fic.passed fic.quality p q))

@@ -47,21 +47,19 @@ struct BlockAnswer {
     quality: Quality,
 }
 
-// The three symbols, joined from the start of the array on.
-fn join(first: &[i8], second: &[i8], third: &[i8]) -> [i8; JOINED]
+// The three symbols, joined from the start of an array on. It is lent, so that it stands on the stack once.
+fn join(first: &[i8], second: &[i8], third: &[i8], values: &mut [i8; JOINED])
     requires first { length first.now ≤ 3072 }
     requires second { length second.now ≤ 3072 }
     requires third { length third.now ≤ 3072 }
-    ensures { take (length first.now + length second.now + length third.now) result ≡ joined first.now second.now third.now }
+    ensures { take (length first.now + length second.now + length third.now) values.new ≡ joined first.now second.now third.now }
 {
-    let mut values = [0; JOINED];
     let second_at = first.len();
     let third_at = second_at + second.len();
     let end = third_at + third.len();
     values[..second_at].copy_from_slice(first);
     values[second_at..third_at].copy_from_slice(second);
     values[third_at..end].copy_from_slice(third);
-    values
 }
 
 // Tests a FIB, and packs it only if it passed: whether it did.
@@ -184,9 +182,14 @@ pub fn process_fic(
     let words = words.first_chunk_mut().ok_or(Refusal::ShortBuffer)?;
     let bits = bits.first_chunk_mut().ok_or(Refusal::ShortBuffer)?;
     let len = first.len() + second.len() + third.len();
+    // Without a whole block nothing is joined, and no array is zeroed.
+    if len < BLOCK {
+        return Ok(Fic::default());
+    }
     if fibs.len() < 96 * (len / BLOCK) {
         return Err(Refusal::ShortBuffer);
     }
-    let joined = join(first, second, third);
+    let mut joined = [0; JOINED];
+    join(first, second, third, &mut joined);
     Ok(process_blocks(&joined[..len], depunctured, words, bits, fibs))
 }

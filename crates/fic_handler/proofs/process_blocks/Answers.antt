@@ -1,21 +1,17 @@
 -- One block more at each turn: its FIBs are written behind those before it.
-use Rattle.std.proofs.Common.{◌≡◌, refl, sym, ap, ◌∙◌, subst, subst₂, List, [], ◌∷◌, ◌++◌, ℕ, ◌+◌, ◌*◌, ◌-◌, ◌/◌, ◌<◌, ◌≤◌, ℤ, length, get_or, take, drop, zero, suc, arith}
+use Rattle.std.proofs.Common.{◌≡◌, sym, ap, ◌∙◌, subst, subst₂, List, [], ℕ, ◌+◌, ◌*◌, ◌-◌, ◌/◌, ◌<◌, ◌≤◌, ℤ, length, get_or, take, drop, arith}
 use Rattle.std.specs.Simd.{first_chunks}
 use borrow.Rule.Slice.PartMut.{put_mid}
 use lib.ListN.{set}
-use lib.Seq.{ext_get_or}
-use lib.Ieee.{binary64, of_bits}
-use Rattle.std.specs.Array.{AllOfLen}
 use Rattle.laws.specs.Lists.{list_from}
 use Rattle.laws.proofs.Slices.{tail_part, tail_put}
 use Rattle.fec_quality.specs.declared.Quality.{Quality}
 use Rattle.fec_quality.specs.Figures.{nothing}
-use Rattle.fic_handler.specs.Blocks.{block_of, blocks_in, data_bits, written, Buffers, fic_buffers}
+use Rattle.fic_handler.specs.Blocks.{block_of, blocks_in, data_bits, Buffers, fic_buffers}
 use Rattle.fic_handler.specs.Code.{BlockProcessed}
-use Rattle.fic_handler.specs.Promise.{Processed}
 use Rattle.laws.proofs.Chunks.{chunk_at}
 use Rattle.fic_handler.proofs.Fibs.{count-le}
-use Rattle.fic_handler.proofs.Run.{Run, run_none, run_next, behind}
+use Rattle.fic_handler.proofs.Run.{Run, run_none, run_next, behind, whole_run, no_percent, four_same}
 use Rattle.fic_handler.proofs.process_blocks.Goals as goal
 
 at_most_three : {values : List ℤ} {before after : Buffers} {count : ℕ} {q : Quality} → BlockProcessed values before count q after → count ≤ 3
@@ -31,39 +27,6 @@ next {xs} {b} {sum} {count} {before} {after} {passed} {quality} {q} {blocks} {de
     let one : BlockProcessed (block_of xs b) (behind after sum) count q (fic_buffers dep ws bs new) =
     subst₂ (λ (vs : List ℤ) (fs : List ℕ). BlockProcessed vs (fic_buffers after.depunctured after.words after.bits fs) count q (fic_buffers dep ws bs new)) this (tail_part (32 * sum) after.fibs fits) p in
     subst (λ (fs : List ℕ). Run xs before (b + 1) (sum + count) (set passed b count) (set quality b q) (fic_buffers dep ws bs fs)) (sym (tail_put (32 * sum) after.fibs fits new)) (run_next xs before b sum count passed quality after (fic_buffers dep ws bs new) q few r one)
-
--- after the last block
-whole_run : {xs : List ℤ} {n b sum : ℕ} {before after : Buffers} {passed : List ℕ} {quality : List Quality} → b ≡ n → Run xs before b sum passed quality after → Processed xs n before (record { fibs = sum; passed = passed; quality = quality }) after
-whole_run {xs} {n} {b} {sum} {before} {after} {passed} {quality} same r = subst (λ (m : ℕ). Processed xs m before (record { fibs = sum; passed = passed; quality = quality }) after) same made
-  where
-    made : Processed xs b before (record { fibs = sum; passed = passed; quality = quality }) after
-    made =
-        record {
-          block = r.block;
-          each = r.each;
-          answer = r.sum_is;
-          passed = r.counts_are;
-          quality = r.qualities_are;
-          depunctured = r.depunctured_are;
-          words = r.words_are;
-          bits = r.bits_are;
-          fibs = r.fibs_are ∙ ap (λ (m : ℕ). written r.block b ++ drop (32 * m) before.fibs) r.sum_is;
-        }
-
-no_percent : of_bits binary64 0 ≡ nothing.percent
-unfolding of_bits
-no_percent = refl
-
--- an array of four that are each x
-same_at : {A : Type 0} (x : A) (i : ℕ) → get_or (x ∷ x ∷ x ∷ x ∷ []) i x ≡ x
-same_at x zero = refl
-same_at x (suc zero) = refl
-same_at x (suc (suc zero)) = refl
-same_at x (suc (suc (suc zero))) = refl
-same_at x (suc (suc (suc (suc i)))) = refl
-
-four_same : {A : Type 0} {P : A → Type 0} {xs : List A} (x : A) → ((y : A) → P y → y ≡ x) → AllOfLen P xs 4 → xs ≡ x ∷ x ∷ x ∷ x ∷ []
-four_same {xs = xs} x one h = ext_get_or x xs (x ∷ x ∷ x ∷ x ∷ []) h.long (λ i l. one _ (h.at i x (omega (arith, h.long))) ∙ sym (same_at x i))
 
 pub loop-b-init : goal.loop-b-init
 unfolding list_from

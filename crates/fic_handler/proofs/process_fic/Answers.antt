@@ -1,10 +1,13 @@
 -- Test by test, and then the blocks.
-use Rattle.std.proofs.Common.{◌≡◌, refl, sym, ap, ap₂, subst, List, ◌++◌, ℕ, ◌+◌, ◌*◌, ◌/◌, ◌<◌, ◌≤◌, ℤ, length, length-append, arith, rules}
+use Rattle.std.proofs.Common.{◌≡◌, refl, sym, ap, ap₂, ◌∙◌, subst, List, ◌++◌, ℕ, ◌+◌, ◌*◌, ◌/◌, ◌<◌, ◌≤◌, ℤ, length, length-append, arith, rules}
 use Rattle.std.specs.Array.{IsFirstChunk}
 use Rattle.refusal.specs.Outcome.{told, refuses}
 use Rattle.fic_handler.specs.Blocks.{joined, blocks_in, fic_buffers}
 use Rattle.fic_handler.specs.Promise.{process_refusal}
+use Rattle.laws.specs.Lists.{list_from}
+use Rattle.fec_quality.specs.Figures.{nothing}
 use Rattle.fic_handler.proofs.Cut.{put_back, whole_call}
+use Rattle.fic_handler.proofs.Run.{no_block, no_percent, four_same}
 use Rattle.fic_handler.proofs.Refusals.{first-long, second-long, third-long, no_depunctured, no_words, no_bits, no_fibs, no_refusal, away, done}
 use Rattle.fic_handler.proofs.process_fic.Goals as goal
 use Rattle.fic_handler.proofs.process_fic.Goals.{then-first-gt-SYMBOL-via-then-first-gt-SYMBOL, then-first-gt-SYMBOL-via-else-first-gt-SYMBOL+then-second-gt-SYMBOL, then-first-gt-SYMBOL-via-else-first-gt-SYMBOL+else-second-gt-SYMBOL+then-third-gt-SYMBOL}
@@ -55,6 +58,20 @@ returns-in_err-bits c =
     away _ _ _ _ (no_bits _ _ _ _ c.if-first-gt-SYMBOL.false c.if-second-gt-SYMBOL.false c.if-third-gt-SYMBOL.false depunctured_front.enough words_front.enough short) err
     (ap₂ (λ (d : List ℤ) (w : List ℕ). fic_buffers d w a.bits.now a.fibs.now) (put_back depunctured_front) (put_back words_front))
 
+pub returns-then-len-lt-BLOCK : goal.returns-then-len-lt-BLOCK
+unfolding list_from
+returns-then-len-lt-BLOCK c =
+    let a = c.args in
+    let depunctured_front : IsFirstChunk a.depunctured.now c.in_ok-depunctured.depunctured.now 3096 = search rules in
+    let words_front : IsFirstChunk a.words.now c.in_ok-words.words.now 774 = search rules in
+    let bits_front : IsFirstChunk a.bits.now c.in_ok-bits.bits.now 774 = search rules in
+    let short : length (joined a.first.now a.second.now a.third.now) < 2304 = omega (arith, joined_length a.first.now a.second.now a.third.now) in
+    let enough : 96 * blocks_in (joined a.first.now a.second.now a.third.now) ≤ length a.fibs.now = omega (arith, short) in
+    let e = c.default.ensures in
+    let absent = four_same nothing (λ y q. (λ i. record { metric = q.0 i; sum = q.1.0 i; percent = (q.1.1 ∙ no_percent) i })) e.1.1 in
+    done _ _ _ _ (no_refusal _ _ _ _ c.if-first-gt-SYMBOL.false c.if-second-gt-SYMBOL.false c.if-third-gt-SYMBOL.false depunctured_front.enough words_front.enough bits_front.enough enough) refl
+    (no_block short (λ i. fic_buffers (put_back depunctured_front i) (put_back words_front i) (put_back bits_front i) a.fibs.now) e.0 (four_same 0 (λ y q. q) e.1.0) absent)
+
 pub returns-then-fibs-len : goal.returns-then-fibs-len
 returns-then-fibs-len c =
     let a = c.args in
@@ -73,4 +90,4 @@ returns c =
     let bits_front : IsFirstChunk a.bits.now c.in_ok-bits.bits.now 774 = search rules in
     let enough = counted a.first.now a.second.now a.third.now (λ (n : ℕ). 96 * n ≤ length a.fibs.now) c.if-fibs-len.false in
     done _ _ _ _ (no_refusal _ _ _ _ c.if-first-gt-SYMBOL.false c.if-second-gt-SYMBOL.false c.if-third-gt-SYMBOL.false depunctured_front.enough words_front.enough bits_front.enough enough) refl
-    (whole_call c.join-joined.ensures depunctured_front.same words_front.same bits_front.same c.process_blocks.ensures)
+    (whole_call c.join.ensures depunctured_front.same words_front.same bits_front.same c.process_blocks.ensures)
