@@ -240,11 +240,12 @@ fn service_key(entry: &[u8], wide: bool) -> u64
     }
 }
 
-// Whether a place's first number says, at 48, that a service is there, and has its key.
+// Whether a place's first number says, at 48, that a service is there, and has its key. One comparison, as a search asks this of up to 64 places;
+// the sum saturates, since it would wrap at a key that no service has.
 fn is_key(number: u64, key: u64) -> bool
     ensures { result ≡ is_key key number }
 {
-    (number >> 48) % 2 == 1 && number % (1 << 33) == key
+    number % (1 << 33) + ((number >> 48) % 2 << 48) == key.saturating_add(1 << 48)
 }
 
 // The lowest place whose first number passes a test.

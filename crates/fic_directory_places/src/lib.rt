@@ -1,15 +1,16 @@
 // A directory as the caller holds it (document 02, order 1): one number for a sub-channel, four for a service. Emptied, and looked up.
 #![tactic(auto)]
 
-ghost use Rattle.std.specs.Prelude.{◌≡◌, ◌<◌, find, if◌then◌else◌, nat_lt, take};
-ghost use Rattle.spec_en300401.specs.Organisation.{primary_audio, audio_in};
+ghost use Rattle.std.specs.Prelude.{◌≡◌, ◌<◌, ◌≤◌, take};
+ghost use Rattle.laws.specs.Lists.{list_of};
+ghost use Rattle.spec_en300401.specs.Organisation.{primary_audio};
 ghost use Rattle.fic_directory_places.specs.Places.{held, sub_in, service_at};
-ghost use Rattle.fic_directory_places.specs.Code.{component_at};
-ghost use Rattle.fic_directory_places.specs.Promises.{answered, described, service_of, EmptyPromise, SubPromise, ServicePromise, AudioPromise};
+ghost use Rattle.fic_directory_places.specs.Code.{component_count, component_at, FirstAudio};
+ghost use Rattle.fic_directory_places.specs.Promises.{described, words_of, service_of, audio_of, EmptyPromise, SubPromise, ServicePromise, AudioPromise};
 
 use fec_protection::Description;
 use refusal::Refusal;
-use std::{array, fmt};
+use std::fmt;
 
 // A service: its identifier, of 32 bits where it is wide, how many components it has, and their words as sent; 0 beyond them.
 #[derive(Clone, Copy, Debug, PartialEq, Eq, Hash)]
@@ -82,15 +83,32 @@ pub fn sub_channel(subs: &[u64], id: usize) -> Result<Option<Description>, Refus
     Ok(subs[..64].get(id).copied().and_then(description))
 }
 
-// Component k of a service, four to a number behind the first; 0 beyond those that there are.
-fn component(numbers: &[u64; 4], count: usize, k: usize) -> u16
-    requires { k < 12 }
-    ensures { result ≡ (if nat_lt k count then component_at numbers.now 0 k else 0) }
+// How many components a service's first number says, 12 for more.
+fn count_in(head: u64) -> usize
+    ensures count { result ≡ component_count head }
+    ensures few { result ≤ 12 }
 {
-    if count <= k {
-        return 0;
-    }
+    ((head >> 40) % 16).min(12) as usize
+}
+
+// Component k of a service, four to a number behind the first.
+fn component(numbers: &[u64; 4], k: usize) -> u16
+    requires { k < 12 }
+    ensures { result ≡ component_at numbers.now 0 k }
+{
     ((numbers[1 + k / 4] >> (16 * (k % 4))) % 65536) as u16
+}
+
+// The words of as many components, 0 behind them. No more are read, as most services have one.
+fn components_in(numbers: &[u64; 4], count: usize) -> [u16; 12]
+    requires { count ≤ 12 }
+    ensures { result ≡ words_of (list_of count (component_at numbers.now 0)) }
+{
+    let mut words = [0; 12];
+    for (k, word) in words[..count].iter_mut().enumerate() {
+        *word = component(numbers, k);
+    }
+    words
 }
 
 // A service by the bits of its first number, if the one at 48 says that it is there, and its components behind it.
@@ -101,12 +119,12 @@ fn service_in(numbers: &[u64; 4]) -> Option<ServiceEntry>
     if (head >> 48) % 2 == 0 {
         return None;
     }
-    let count = ((head >> 40) % 16).min(12) as usize;
+    let count = count_in(head);
     Some(ServiceEntry {
         wide: (head >> 32) % 2 == 1,
         sid: (head % (1 << 32)) as u32,
         count,
-        words: array::from_fn(|k| component(numbers, count, k)),
+        words: components_in(numbers, count),
     })
 }
 
@@ -128,22 +146,31 @@ fn is_audio(word: u16) -> bool
 }
 
 // A function of its own: the caller's proof knows what a chain finds by this clause alone.
-fn audio_word(words: &[u16]) -> Option<u16>
-    ensures { result ≡ find primary_audio words.now }
+fn first_audio(numbers: &[u64; 4], count: usize) -> Option<usize>
+    requires { count ≤ 12 }
+    ensures { FirstAudio (component_at numbers.now 0) count result }
 {
-    words.iter().copied().find(|word| is_audio(*word))
+    (0..count).find(|k| is_audio(component(numbers, *k)))
 }
 
-// The SubChId of the first component that is primary audio.
-fn audio_in(words: &[u16]) -> Option<usize>
-    ensures { result ≡ answered (audio_in words.now) }
+// The SubChId of a service's first component that is primary audio; its words are read up to there alone.
+fn audio_in(numbers: &[u64; 4]) -> Option<usize>
+    ensures { result ≡ audio_of (service_at numbers.now 0) }
 {
-    audio_word(words).map(|word| usize::from(word / 4 % 64))
+    let head = numbers[0];
+    if (head >> 48) % 2 == 0 {
+        return None;
+    }
+    first_audio(numbers, count_in(head)).map(|k| usize::from(component(numbers, k) / 4 % 64))
 }
 
 // The sub-channel of the primary audio component of the service at a place.
 pub fn audio_sub_channel(services: &[u64], place: usize) -> Result<Option<usize>, Refusal>
     ensures { AudioPromise services.now place result }
 {
-    Ok(service(services, place)?.and_then(|service| audio_in(service.components())))
+    if services.len() < 256 {
+        return Err(Refusal::ShortDirectory);
+    }
+    let (places, _) = services[..256].as_chunks::<4>();
+    Ok(places.get(place).and_then(audio_in))
 }
