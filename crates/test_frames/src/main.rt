@@ -38,21 +38,21 @@ const DESCRIPTIONS: [Description; 3] = [
     },
 ];
 
-// A sub-channel's state and its buffers that hold something from symbol to symbol; the ring has room for the largest of the three.
+// A sub-channel's state and its buffers that hold something from symbol to symbol. They are lent: each move of a receiver that owned them would be a copy
+// of 150 KB on the stack.
 #[derive(Drop)]
-struct Receiver {
+struct Receiver<'a> {
     state: State,
-    cif: [i8; 55296],
-    ring: [i8; 98304],
+    cif: &'a mut [i8],
+    ring: &'a mut [i8],
 }
 
-impl Receiver {
-    fn new(d: Description) -> Self {
-        let mut ring = [0; 98304];
-        let set_up = msc_set_up::set_up(d, &mut ring);
+impl<'a> Receiver<'a> {
+    fn new(d: Description, cif: &'a mut [i8], ring: &'a mut [i8]) -> Self {
+        let set_up = msc_set_up::set_up(d, &mut *ring);
         Receiver {
             state: set_up.state,
-            cif: [0; 55296],
+            cif,
             ring,
         }
     }
@@ -61,8 +61,8 @@ impl Receiver {
     fn listen<W: Write>(&mut self, soft: &[i8], output: &mut W) {
         let mut frame = [0; 384];
         let mut memory = Memory {
-            cif: &mut self.cif,
-            ring: &mut self.ring,
+            cif: &mut *self.cif,
+            ring: &mut *self.ring,
             deinterleaved: &mut [0; 6144],
             depunctured: &mut [0; 12312],
             words: &mut [0; 3078],
@@ -98,7 +98,19 @@ fn next<R: Read>(input: &mut R, symbol: usize) -> Option<[i8; 3072]> {
 fn main(rt: HostRuntime) {
     let mut input = rt.stdin();
     let mut output = rt.stdout();
-    let mut receivers = DESCRIPTIONS.map(Receiver::new);
+    let [first, second, third] = DESCRIPTIONS;
+    // A ring has room for the largest of the three.
+    let mut cif1 = [0; 55296];
+    let mut cif2 = [0; 55296];
+    let mut cif3 = [0; 55296];
+    let mut ring1 = [0; 98304];
+    let mut ring2 = [0; 98304];
+    let mut ring3 = [0; 98304];
+    let mut receivers = [
+        Receiver::new(first, &mut cif1, &mut ring1),
+        Receiver::new(second, &mut cif2, &mut ring2),
+        Receiver::new(third, &mut cif3, &mut ring3),
+    ];
     for symbol in 0..360 {
         let Some(soft) = next(&mut input, symbol) else {
             break;
