@@ -11,6 +11,9 @@ pub const FIB_LENGTH: usize = 32;
 
 pub const FIB_CRC_LENGTH: usize = 2;
 
+// Bits of a FIB.
+const FIB_BITS: usize = 256;
+
 // Carriers of mode I: a symbol has two soft values for each.
 pub const K: usize = 1536;
 
@@ -64,7 +67,7 @@ fn are_bits(bits: &[u8]) -> bool
 pub fn check_crc_bits(bits: &[u8]) -> bool
     ensures { result ≡ bit_test bits.now }
 {
-    if bits.len() != 256 {
+    if bits.len() != FIB_BITS {
         return false;
     }
     if !are_bits(bits) {

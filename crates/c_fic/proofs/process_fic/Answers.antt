@@ -1,5 +1,5 @@
 -- Test by test, and then the handler's answer.
-use Rattle.std.proofs.Common.{◌≡◌, Ok, Err, rules}
+use Rattle.std.proofs.Common.{◌≡◌, Ok, Err, arith, rules}
 use Rattle.fic_handler.specs.Blocks.{fic_buffers}
 use Rattle.fic_handler.specs.Promise.{process_refusal}
 use Rattle.fic_handler.proofs.Refusals.{first-long, second-long, third-long}
@@ -18,7 +18,7 @@ returns-then-first-gt3072 c =
       | then-first-gt3072-via-then-first-gt3072 w ↦ first-long a.first.now a.second.now a.third.now l w.if-first-gt3072.true
       | then-first-gt3072-via-else-first-gt3072+then-second-gt3072 w ↦ second-long a.first.now a.second.now a.third.now l w.if-first-gt3072.false w.if-second-gt3072.true
       | then-first-gt3072-via-else-first-gt3072+else-second-gt3072+then-third-gt3072 w ↦
-          third-long a.first.now a.second.now a.third.now l w.if-first-gt3072.false w.if-second-gt3072.false w.if-third-gt3072.true
+          third-long a.first.now a.second.now a.third.now l w.if-first-gt3072.false w.if-second-gt3072.false (omega arith)
     ] in
     away _ _ _ _ _ (long_symbol _ _ _ _ _ long)
 
@@ -31,7 +31,7 @@ returns-then-counts-lt5 c =
       | then-counts-lt5-via-else-counts-lt5+then-metrics-lt8 w ↦ few_metrics f w.if-counts-lt5.false w.if-metrics-lt8.true
       | then-counts-lt5-via-else-counts-lt5+else-metrics-lt8+then-percents-lt4 w ↦ few_percents f w.if-counts-lt5.false w.if-metrics-lt8.false w.if-percents-lt4.true
     ] in
-    away _ _ _ _ _ (short_places _ _ _ _ _ c.if-first-gt3072.false c.if-second-gt3072.false c.if-third-gt3072.false few)
+    away _ _ _ _ _ (short_places _ _ _ _ _ c.if-first-gt3072.false c.if-second-gt3072.false (omega arith) few)
 
 pub returns-in_err-fic : goal.returns-in_err-fic
 returns-in_err-fic c =

@@ -1,5 +1,5 @@
 -- The first number that its field does not hold, or all held.
-use Rattle.std.proofs.Common.{refl}
+use Rattle.std.proofs.Common.{refl, arith}
 use Rattle.c_state.proofs.Numbers.{under_eleven, over_field, all_fit}
 use Rattle.c_state.proofs.read.Goals as goal
 
@@ -10,7 +10,9 @@ pub returns-in_err-field : goal.returns-in_err-field
 returns-in_err-field c = over_field _ 4 65535 _ _ refl c.in-len11-up.len_at_least c.in_err-field.ensures c.from_residual.ensures.1
 
 pub returns-in_err-field-2 : goal.returns-in_err-field-2
-returns-in_err-field-2 c = over_field _ 5 65535 _ _ refl c.in-len11-up.len_at_least c.in_err-field-2.ensures c.from_residual-in_err-field-2.ensures.1
+returns-in_err-field-2 c =
+    let f = c.in_err-field-2.ensures in
+    over_field _ 5 65535 _ _ refl c.in-len11-up.len_at_least (f.0, (f.1.0, λ h. f.1.1 (omega arith))) c.from_residual-in_err-field-2.ensures.1
 
 pub returns-in_err-field-3 : goal.returns-in_err-field-3
 returns-in_err-field-3 c = over_field _ 6 65535 _ _ refl c.in-len11-up.len_at_least c.in_err-field-3.ensures c.from_residual-in_err-field-3.ensures.1
@@ -35,5 +37,6 @@ returns-in_err-field-9 c = over_field _ 1 255 _ _ refl c.in-len11-up.len_at_leas
 
 pub returns : goal.returns
 returns c =
-    all_fit _ c.in-len11-up.len_at_least _ _ _ _ _ _ _ _ _ c.in_ok-field.ensures c.in_ok-field-2.ensures c.in_ok-field-3.ensures c.in_ok-field-4.ensures c.in_ok-field-5.ensures c.in_ok-field-6.ensures c.in_ok-field-7.ensures c.in_ok-field-8.ensures
-    c.in_ok-field-9.ensures
+    let size = c.in_ok-field-2.ensures in
+    all_fit _ c.in-len11-up.len_at_least _ _ _ _ _ _ _ _ _ c.in_ok-field.ensures (omega (arith, size.0), omega (arith, size.1)) c.in_ok-field-3.ensures c.in_ok-field-4.ensures c.in_ok-field-5.ensures c.in_ok-field-6.ensures c.in_ok-field-7.ensures
+    c.in_ok-field-8.ensures c.in_ok-field-9.ensures

@@ -28,17 +28,17 @@ module _ (bits fib : List ℕ) (long : length bits ≡ 256) (room : length fib �
       p.bytes ∙ packed-is bits fib (omega arith) ∙ ap (λ (l : List ℕ). bytes_of bits ++ l) (drop_of_length-le fib (omega arith)) ∙ append-nil (bytes_of bits)
       ∙ bytes_of-bits bits h
 
-pub returns-then-bits-ne256 : goal.returns-then-bits-ne256
-returns-then-bits-ne256 c = not_256 _ c.if-bits-ne256.true
+pub returns-then-bits-ne-FIB_BITS : goal.returns-then-bits-ne-FIB_BITS
+returns-then-bits-ne-FIB_BITS c = not_256 _ c.if-bits-ne-FIB_BITS.true
 
 pub returns-then-not-are_bits : goal.returns-then-not-are_bits
 returns-then-not-are_bits c = no_bits _ c.if-not-are_bits.ensures
 
 pub unwrap-requires : goal.unwrap-requires
-unwrap-requires c = subst (λ (r : Result ℕ Refusal). IsOk r) (sym (done c.args.bits.now _ c.if-bits-ne256.false refl c.pack.ensures)) refl
+unwrap-requires c = subst (λ (r : Result ℕ Refusal). IsOk r) (sym (done c.args.bits.now _ c.if-bits-ne-FIB_BITS.false refl c.pack.ensures)) refl
 
 pub returns : goal.returns
 returns c =
     let bits = c.args.bits.now in
     let h = all_are bits (sym c.if-not-are_bits.ensures) in
-    c.fib_crc_valid.ensures ∙ ap byte_test (bytes bits _ c.if-bits-ne256.false refl c.pack.ensures h) ∙ sym (tests_agree bits c.if-bits-ne256.false h)
+    c.fib_crc_valid.ensures ∙ ap byte_test (bytes bits _ c.if-bits-ne-FIB_BITS.false refl c.pack.ensures h) ∙ sym (tests_agree bits c.if-bits-ne-FIB_BITS.false h)

@@ -1,8 +1,10 @@
-use Rattle.std.proofs.Common.{take, drop, ◌++◌, to_z, of_z, ◌≡◌, ℕ, ◌<◌, ◌≤◌, ℤ, pos, length, List, refl, sym, subst, arith, w32}
+use Rattle.std.proofs.Common.{◌∙◌, ap, get_or, [], ◌∷◌, Bool, true, false, take, drop, ◌++◌, to_z, of_z, ◌≡◌, ℕ, ◌<◌, ◌≤◌, ℤ, pos, length, List, refl, sym, subst, arith, w32}
 use Rattle.std.proofs.Math.Seq.{length-take-le}
 use Rattle.laws.proofs.Machine.{back}
 use Rattle.spec_trellis.specs.Trellis.{Ends}
-use Rattle.refusal.specs.Outcome.{gives, refuses}
+use mir.Val.{bool_byte}
+use Rattle.refusal.specs.declared.Refusal.{Refusal}
+use Rattle.refusal.specs.Outcome.{gives, refuses, numbered}
 use Rattle.refusal.proofs.Laws.{refused_by, given_by, done_by, untouched_by}
 use Rattle.fec_viterbi.specs.declared.Score.{Score}
 use Rattle.fec_viterbi.specs.Decoders.{steps, decoder_refusal, Accepted, Untouched, Decoded}
@@ -31,8 +33,16 @@ done ends xs words bits s {words'} {bits'} z a =
       buffers_are = done_by (Accepted ends xs (steps xs) words bits s.metric words' bits') (Untouched words bits words' bits') n z a;
     }
 
+long : {ends : Ends} {xs : List ℤ} {words bits : List ℕ} (k : ℕ) → 65536 < steps xs → k ≡ 11 → Decoded ends xs words bits (refuses k) words bits
+long {ends} {xs} {words} {bits} k h e = subst (λ (n : ℕ). Decoded ends xs words bits (refuses n) words bits) (sym e) (refused 11 (omega arith) (too_long _ _ _ h))
+
+-- one of two refusals that have one number, as an edit picks between two that have not
+either : (x y d : Refusal) (k : ℕ) (b : Bool) (i : ℕ) → i ≡ bool_byte b → numbered x ≡ k → numbered y ≡ k → numbered (get_or (x ∷ y ∷ []) i d) ≡ k
+either x y d k true i e p q = ap (λ (n : ℕ). numbered (get_or (x ∷ y ∷ []) n d)) e ∙ q
+either x y d k false i e p q = ap (λ (n : ℕ). numbered (get_or (x ∷ y ∷ []) n d)) e ∙ p
+
 pub returns-then-n-gt-MAX_STEPS : goal.returns-then-n-gt-MAX_STEPS
-returns-then-n-gt-MAX_STEPS c = refused 11 (omega arith) (too_long _ _ _ c.if-n-gt-MAX_STEPS.true)
+returns-then-n-gt-MAX_STEPS c = search (long, c.if-n-gt-MAX_STEPS.true, either)
 
 pub returns-then-min-n : goal.returns-then-min-n
 returns-then-min-n c = refused 8 (omega arith) (too_short _ _ _ c.if-n-gt-MAX_STEPS.false (omega arith))
