@@ -241,7 +241,7 @@ fn service_key(entry: &[u8], wide: bool) -> u64
 }
 
 // Whether a place's first number says, at 48, that a service is there, and has its key. One comparison, as a search asks this of up to 64 places;
-// the sum saturates, since it would wrap at a key that no service has.
+// the sum saturates, so that it needs no bound on the key.
 fn is_key(number: u64, key: u64) -> bool
     ensures { result ≡ is_key key number }
 {

@@ -1,5 +1,6 @@
 -- Turn by turn one value more is read; then one value more of the slice stands in slot x.
-use Rattle.std.proofs.Common.{rules, ◌≡◌, ◌+◌, ◌*◌, ℕ, ℤ, List, pos, length, set, get_or, ap, refl, sym, ◌∙◌, arith, SFits, w8, to_z-of_z}
+use Rattle.std.proofs.Common.{rules, ◌≡◌, ◌+◌, ◌*◌, ℕ, ℤ, List, [], ◌∷◌, Bool, true, false, pos, length, set, get_or, ap, refl, sym, ◌∙◌, arith, SFits, w8, to_z, of_z, to_z-of_z}
+use mir.Val.{bool_byte}
 use Rattle.std.proofs.Math.Seq.{paste, ext_get_or}
 use Rattle.laws.proofs.Lists.{length-list_of, list_of-at}
 use Rattle.laws.proofs.Pasted.{pasted_next}
@@ -14,6 +15,11 @@ pub overflow_add-slot : goal.overflow_add-slot
 unfolding delays
 overflow_add-slot c = omega (arith, delay-lt c.loop-i.i)
 
+-- a value that is picked of two is k where both are, as an edit picks
+picked : (a b d k : ℤ) (t : Bool) → a ≡ k → b ≡ k → get_or (a ∷ b ∷ []) (bool_byte t) d ≡ k
+picked a b d k true p q = q
+picked a b d k false p q = p
+
 pub loop-i-preserved : goal.loop-i-preserved
 unfolding delays
 loop-i-preserved c =
@@ -21,8 +27,12 @@ loop-i-preserved c =
     let n = length c.args.out.now in
     let x = c.args.x in
     let i = c.loop-i.i in
-    let fits : SFits w8 (get_or ring (slot_of x i * n + i) (pos 0)) = search rules in
-    filled (pos 0) c.loop-i.out i _ (λ (k : ℕ). in_slot ring n (slot_of x k) k) (omega arith) c.loop-i.invariant (simp (to_z-of_z fits))
+    let value = in_slot ring n (slot_of x i) i in
+    let fits : SFits w8 value = search rules in
+    let one : to_z w8 (of_z w8 value) ≡ value = to_z-of_z fits in
+    let pick : (a b d : ℤ) (t : Bool) → a ≡ value → b ≡ value → to_z w8 (of_z w8 (get_or (a ∷ b ∷ []) (bool_byte t) d)) ≡ value =
+    λ a b d t p q. ap (λ (z : ℤ). to_z w8 (of_z w8 z)) (picked a b d value t p q) ∙ one in
+    filled (pos 0) c.loop-i.out i _ (λ (k : ℕ). in_slot ring n (slot_of x k) k) (omega arith) c.loop-i.invariant (search (one, pick))
 
 pub loop-k-preserved : goal.loop-k-preserved
 loop-k-preserved c =
