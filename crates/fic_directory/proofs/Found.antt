@@ -4,7 +4,7 @@ use mathlib.Core.Path.{◌≡◌, refl, sym, ap, ◌∙◌, subst}
 use mathlib.Core.Bool.{Bool, true, false, cond, ◌&&◌}
 use mathlib.Core.List.{List, [], ◌∷◌, ◌++◌}
 use mathlib.Core.Option.{Option, none, some}
-use Prim.Native.Nat.{ℕ, zero, suc, ◌+◌, ◌*◌, ◌/◌, ◌%◌, ◌^◌, ◌<◌, ◌≤◌}
+use Prim.Native.Nat.{ℕ, zero, suc, ◌+◌, ◌*◌, ◌/◌, ◌%◌, ◌^◌, ◌<◌}
 use native.Mathlib.Omega.{arith}
 use borrow.Author.Tests.{eq-eqb, ne_eqb, eqb-true, eqb-false}
 use lib.Dec.{eqb}
@@ -105,13 +105,6 @@ lowest {answers} test f xs r one same l = go r l.found
     go (Some p) m =
         let e : 0 + p ≡ p = omega arith in
         ap Some (sym e) ∙ ap answered (sym (first_some f 0 p (services_of xs) (omega (arith, m.0, sixty_four xs)) (at p true m.0 m.1) (λ q h. at q false (omega (arith, m.0)) (m.2 q h))))
-
--- what a search over a range says
-pub lowest_of : {answers : ℕ → Bool → Type 0} (xs : List ℕ) (r : Answer ℕ)
-    → MatchOption r ((k : ℕ) → 0 ≤ k → k < 64 → answers (get_or xs (4 * k) 0) false) (λ p. (0 ≤ p) × (p < 64) × answers (get_or xs (4 * p) 0) true × ((k : ℕ) → 0 ≤ k → k < p → answers (get_or xs (4 * k) 0) false))
-    → LowestPlace answers xs r
-lowest_of xs None m = record { found = λ p h. m p (omega arith) h }
-lowest_of xs (Some p) m = record { found = (m.1, m.2, λ q h. m.3 q (omega arith) h) }
 
 -- the lowest place is a place
 below : (f : Option Service → Bool) (i : ℕ) (xs : List (Option Service)) → IfSome (answered (first_place f i xs)) (λ q. q < i + length xs)

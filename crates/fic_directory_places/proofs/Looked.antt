@@ -5,7 +5,7 @@ use mathlib.Core.Bool.{Bool, true, false, cond}
 use mathlib.Core.Logic.{◌⊎◌, inl, inr}
 use mathlib.Core.List.{List, [], ◌∷◌, ◌++◌}
 use mathlib.Core.Option.{Option, none, some}
-use Prim.Native.Nat.{ℕ, zero, suc, ◌+◌, ◌*◌, ◌/◌, ◌%◌, ◌^◌, ◌-◌, ◌<◌, ◌≤◌, min}
+use Prim.Native.Nat.{ℕ, ◌+◌, ◌*◌, ◌/◌, ◌%◌, ◌^◌, ◌-◌, ◌<◌, ◌≤◌, min}
 use native.Mathlib.Omega.{arith}
 use borrow.Author.Tests.{eq-eqb, le-ltb}
 use lib.ListN.{length, get_or, replicate, take, drop, length-take, length-drop, length-append, length-replicate, get_or-replicate, get_or-append, get_or-eq_default}
@@ -20,8 +20,8 @@ use Rattle.spec_en300401.specs.Directory.{places}
 use Rattle.std.specs.Simd.{first_chunks}
 use Rattle.laws.proofs.Chunks.{length-chunks, chunk_at}
 use denote.Bor.{Bor}
-use Rattle.laws.specs.Lists.{list_of}
-use Rattle.laws.proofs.Lists.{length-list_of, list_of-at}
+use Rattle.laws.specs.Lists.{list_of, find}
+use Rattle.laws.proofs.Lists.{length-list_of, list_of-at, find_at, find_none}
 use Rattle.spec_en300401.specs.Organisation.{Service, primary_audio, audio_in}
 use Rattle.fic_directory_places.specs.declared.ServiceEntry.{ServiceEntry}
 use Rattle.fic_directory_places.specs.Places.{field, flag_at, sub_in, subs_of, service_at, services_of}
@@ -70,31 +70,36 @@ service_there xs ws n there e w =
 
 -- ---- its audio
 
-no_audio : (ws : List ℕ) → ((k : ℕ) → k < length ws → primary_audio (get_or ws k 0) ≡ false) → audio_in ws ≡ none
-unfolding audio_in
-no_audio [] e = refl
-no_audio (w ∷ ws) e = ap (λ (b : Bool). cond b (some (w / 4 % 64)) (audio_in ws)) (e 0 (omega arith)) ∙ no_audio ws (λ k h. e (suc k) (omega arith))
+-- the SubChId of a component that was found
+abbrev sub_of : Option ℕ → Option ℕ
+sub_of none = none
+sub_of (some w) = some (w / 4 % 64)
 
-audio_at : (k : ℕ) (ws : List ℕ) → k < length ws → primary_audio (get_or ws k 0) ≡ true → ((q : ℕ) → q < k → primary_audio (get_or ws q 0) ≡ false) → audio_in ws ≡ some (get_or ws k 0 / 4 % 64)
-unfolding audio_in
-audio_at k [] h t e = absurd (omega arith)
-audio_at zero (w ∷ ws) h t e = ap (λ (b : Bool). cond b (some (w / 4 % 64)) (audio_in ws)) t
-audio_at (suc k) (w ∷ ws) h t e = ap (λ (b : Bool). cond b (some (w / 4 % 64)) (audio_in ws)) (e 0 (omega arith)) ∙ audio_at k ws (omega arith) t (λ q l. e (suc q) (omega arith))
+audio_is : (ws : List ℕ) → audio_in ws ≡ sub_of (find primary_audio ws)
+unfolding audio_in find
+audio_is [] = refl
+audio_is (w ∷ ws) = go (primary_audio w) (audio_is ws)
+  where
+    go : (b : Bool) → audio_in ws ≡ sub_of (find primary_audio ws) → cond b (some (w / 4 % 64)) (audio_in ws) ≡ sub_of (cond b (some w) (find primary_audio ws))
+    go true e = refl
+    go false e = e
 
--- what `find` says of a range that begins at 0
-pub first_of : (f : ℕ → ℕ) (n : ℕ) (r : Answer ℕ)
-    → MatchOption r ((k : ℕ) → 0 ≤ k → k < n → primary_audio (f k) ≡ false) (λ k. (0 ≤ k) × (k < n) × (primary_audio (f k) ≡ true) × ((q : ℕ) → 0 ≤ q → q < k → primary_audio (f q) ≡ false)) → FirstAudio f n r
-first_of f n None e = record { found = λ k l. e k (omega arith) l }
-first_of f n (Some k) e = record { found = (e.1, e.2, λ q l. e.3 q (omega arith) l) }
+-- what std's `find` says of a range that begins at 0
+pub from_zero : (hit miss : ℕ → Type 0) (n : ℕ) (r : Answer ℕ) → MatchOption r ((k : ℕ) → 0 ≤ k → k < n → miss k) (λ k. (0 ≤ k) × (k < n) × hit k × ((q : ℕ) → 0 ≤ q → q < k → miss q))
+    → MatchOption r ((k : ℕ) → k < n → miss k) (λ k. (k < n) × hit k × ((q : ℕ) → q < k → miss q))
+from_zero hit miss n None m = λ k h. m k (omega arith) h
+from_zero hit miss n (Some k) m = (m.1, m.2, λ q h. m.3 q (omega arith) h)
 
 -- the SubChId of the first component that is primary audio
 audio_found : (f : ℕ → ℕ) (n : ℕ) (r : Answer ℕ) → FirstAudio f n r → option_map (λ k. f k / 4 % 64) r ≡ answered (audio_in (list_of n f))
 audio_found f n None a =
-    sym (ap answered (no_audio (list_of n f) (λ k l. let h : k < n = omega (arith, length-list_of n f) in ap primary_audio (list_of-at n f 0 k h) ∙ a.found k h)))
+    sym (ap answered (audio_is (list_of n f) ∙ ap sub_of (find_none primary_audio 0 (list_of n f) (λ k l. let h : k < n = omega (arith, length-list_of n f) in ap primary_audio (list_of-at n f 0 k h) ∙ a.found k h))))
 audio_found f n (Some k) a =
     let h : k < n = a.found.0 in
     let here : get_or (list_of n f) k 0 ≡ f k = list_of-at n f 0 k h in
-    sym (ap answered (audio_at k (list_of n f) (omega (arith, length-list_of n f)) (ap primary_audio here ∙ a.found.1) (λ q l. let m : q < n = omega arith in ap primary_audio (list_of-at n f 0 q m) ∙ a.found.2 q l) ∙ ap (λ (w : ℕ). some (w / 4 % 64)) here))
+    let first : find primary_audio (list_of n f) ≡ some (get_or (list_of n f) k 0) =
+    find_at primary_audio 0 (list_of n f) k (omega (arith, length-list_of n f)) (λ q l. let m : q < n = omega arith in ap primary_audio (list_of-at n f 0 q m) ∙ a.found.2 q l) (ap primary_audio here ∙ a.found.1) in
+    sym (ap answered (audio_is (list_of n f) ∙ ap sub_of first ∙ ap (λ (w : ℕ). some (w / 4 % 64)) here))
 
 pub audio_there : (xs : List ℕ) (n : ℕ) (o r : Answer ℕ) → (get_or xs 0 0 / 2 ^ 48 % 2 ≡ 0 → ⊥) → n ≡ component_count (get_or xs 0 0) → FirstAudio (component_at xs 0) n o → r ≡ option_map (λ k. component_at xs 0 k / 4 % 64) o → r ≡ audio_of (service_at xs 0)
 unfolding service_at
