@@ -150,32 +150,29 @@ same_service xs ys i j e =
 
 -- what is said of the service of a place below 64, and of none at another
 module _ {X : Type 0} (g : Option Service → Answer X) (absent : g none ≡ None) where
-  place_found : (services : List ℕ) (place : ℕ) (fours : List (List ℕ)) (o : Answer (Bor (List ℕ))) (r : Answer X) → 256 ≤ length services → fours ≡ first_chunks 4 (length (take 256 services) / 4) (take 256 services) → ItemBy (λ (x : Bor (List ℕ)). x.now) fours place place o
+  place_found : (services : List ℕ) (place : ℕ) (fours : List (List ℕ)) (o : Answer (Bor (List ℕ))) (r : Answer X) → 256 ≤ length services → fours ≡ first_chunks 4 64 (take 256 services) → ItemBy (λ (x : Bor (List ℕ)). x.now) fours place place o
       → MatchOption o (r ≡ None) (λ x. r ≡ g (service_at x.now 0)) → gives r ≡ outcome (services_refusal (length services)) (g (get_or (services_of services) place none))
   unfolding services_of
   place_found services place fours o r h f l m = (ap gives (by o l m (cases_lt place 64))) ∙ sym (ap (λ (b : Bool). outcome (cond b 12 0) (g (get_or (services_of services) place none))) (le-ltb (length services) 256 h))
     where
-      fours_are : fours ≡ first_chunks 4 64 (take 256 services)
-      fours_are = let many : length (take 256 services) / 4 ≡ 64 = omega (arith, length-take 256 services) in f ∙ ap (λ (n : ℕ). first_chunks 4 n (take 256 services)) many
-
       long : length fours ≡ 64
-      long = ap (λ (xss : List (List ℕ)). length xss) fours_are ∙ length-chunks 4 64 (take 256 services)
+      long = ap (λ (xss : List (List ℕ)). length xss) f ∙ length-chunks 4 64 (take 256 services)
 
       by : (o : Answer (Bor (List ℕ))) → ItemBy (λ (x : Bor (List ℕ)). x.now) fours place place o → MatchOption o (r ≡ None) (λ x. r ≡ g (service_at x.now 0)) → (place < 64) ⊎ (64 ≤ place) → r ≡ g (get_or (services_of services) place none)
       by None l m (inl k) = absurd (omega (arith, l.3, long))
       by None l m (inr k) = m ∙ sym absent ∙ ap g (sym (get_or-eq_default (services_of services) none (omega (arith, length-list_of places (λ (p : ℕ). service_at services (4 * p))))))
       by (Some x) l m (inl k) =
-          let now : x.now ≡ take 4 (drop (4 * place) (take 256 services)) = l.1 ∙ ap (λ (xss : List (List ℕ)). get_or xss place x.now) fours_are ∙ chunk_at 4 64 (take 256 services) place x.now k in
+          let now : x.now ≡ take 4 (drop (4 * place) (take 256 services)) = l.1 ∙ ap (λ (xss : List (List ℕ)). get_or xss place x.now) f ∙ chunk_at 4 64 (take 256 services) place x.now k in
           let same : service_at x.now 0 ≡ service_at services (4 * place) =
           same_service services x.now (4 * place) 0
           (λ j q. ap (λ (xs : List ℕ). get_or xs (0 + j) 0) now ∙ get_or-take 4 (drop (4 * place) (take 256 services)) (0 + j) 0 (omega arith) ∙ get_or-drop (4 * place) (take 256 services) (0 + j) 0 ∙ get_or-take 256 services (4 * place + (0 + j)) 0 (omega arith) ∙ ap (λ (n : ℕ). get_or services n 0) (omega arith)) in
           m ∙ ap g (same ∙ sym (list_of-at places (λ (p : ℕ). service_at services (4 * p)) none place k))
       by (Some x) l m (inr k) = absurd (omega (arith, l.3.0, long))
 
-pub service_found : (services : List ℕ) (place : ℕ) (fours : List (List ℕ)) (o : Answer (Bor (List ℕ))) (r : Answer ServiceEntry) → 256 ≤ length services → fours ≡ first_chunks 4 (length (take 256 services) / 4) (take 256 services) → ItemBy (λ (x : Bor (List ℕ)). x.now) fours place place o
+pub service_found : (services : List ℕ) (place : ℕ) (fours : List (List ℕ)) (o : Answer (Bor (List ℕ))) (r : Answer ServiceEntry) → 256 ≤ length services → fours ≡ first_chunks 4 64 (take 256 services) → ItemBy (λ (x : Bor (List ℕ)). x.now) fours place place o
     → MatchOption o (r ≡ None) (λ x. r ≡ service_of (service_at x.now 0)) → ServicePromise services place (Ok r)
 service_found services place fours o r h f l m = record { answer = place_found service_of refl services place fours o r h f l m }
 
-pub audio_heard : (services : List ℕ) (place : ℕ) (fours : List (List ℕ)) (o : Answer (Bor (List ℕ))) (r : Answer ℕ) → 256 ≤ length services → fours ≡ first_chunks 4 (length (take 256 services) / 4) (take 256 services) → ItemBy (λ (x : Bor (List ℕ)). x.now) fours place place o
+pub audio_heard : (services : List ℕ) (place : ℕ) (fours : List (List ℕ)) (o : Answer (Bor (List ℕ))) (r : Answer ℕ) → 256 ≤ length services → fours ≡ first_chunks 4 64 (take 256 services) → ItemBy (λ (x : Bor (List ℕ)). x.now) fours place place o
     → MatchOption o (r ≡ None) (λ x. r ≡ audio_of (service_at x.now 0)) → AudioPromise services place (Ok r)
 audio_heard services place fours o r h f l m = record { answer = place_found audio_of refl services place fours o r h f l m }

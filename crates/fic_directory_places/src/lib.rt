@@ -1,7 +1,9 @@
 // A directory as the caller holds it (document 02, order 1): one number for a sub-channel, four for a service. Emptied, and looked up.
 #![tactic(auto)]
 
-ghost use Rattle.std.specs.Prelude.{◌≡◌, ◌<◌, ◌≤◌, take};
+ghost use Rattle.std.specs.Prelude.{◌≡◌, ◌<◌, ◌≤◌, length, take, IfOk, IfErr};
+ghost use Rattle.std.specs.Simd.{first_chunks};
+ghost use Rattle.refusal.specs.Outcome.{numbered};
 ghost use Rattle.laws.specs.Lists.{list_of};
 ghost use Rattle.spec_en300401.specs.Organisation.{primary_audio};
 ghost use Rattle.fic_directory_places.specs.Places.{held, sub_in, service_at};
@@ -128,15 +130,23 @@ fn service_in(numbers: &[u64; 4]) -> Option<ServiceEntry>
     })
 }
 
-// What the directory has at a service's place.
-pub fn service(services: &[u64], place: usize) -> Result<Option<ServiceEntry>, Refusal>
-    ensures { ServicePromise services.now place result }
+// The services' 64 places, four numbers each.
+fn places_in(services: &[u64]) -> Result<&[[u64; 4]], Refusal>
+    ensures short { IfErr result (λ refusal. (numbered refusal ≡ 12) × (length services.now < 256)) }
+    ensures long { IfOk result (λ fours. (256 ≤ length services.now) × (fours.now ≡ first_chunks 4 64 (take 256 services.now))) }
 {
     if services.len() < 256 {
         return Err(Refusal::ShortDirectory);
     }
     let (places, _) = services[..256].as_chunks::<4>();
-    Ok(places.get(place).and_then(service_in))
+    Ok(places)
+}
+
+// What the directory has at a service's place.
+pub fn service(services: &[u64], place: usize) -> Result<Option<ServiceEntry>, Refusal>
+    ensures { ServicePromise services.now place result }
+{
+    Ok(places_in(services)?.get(place).and_then(service_in))
 }
 
 fn is_audio(word: u16) -> bool
@@ -168,9 +178,5 @@ fn audio_in(numbers: &[u64; 4]) -> Option<usize>
 pub fn audio_sub_channel(services: &[u64], place: usize) -> Result<Option<usize>, Refusal>
     ensures { AudioPromise services.now place result }
 {
-    if services.len() < 256 {
-        return Err(Refusal::ShortDirectory);
-    }
-    let (places, _) = services[..256].as_chunks::<4>();
-    Ok(places.get(place).and_then(audio_in))
+    Ok(places_in(services)?.get(place).and_then(audio_in))
 }
